@@ -1,14 +1,14 @@
 -- What was read as of version 1 and is unchanged reads the same as of version 2.
-use Rattle.std.proofs.Common.{◌≡◌, ℕ, suc, Bool, true, List, [], ◌∷◌, ◌++◌, map, length, Option, Some, None, Result, Ok, refl, ap, inl, inr, subst}
+use Rattle.std.proofs.Common.{◌≡◌, ℕ, suc, Bool, true, List, [], ◌∷◌, ◌++◌, map, length, Option, Some, None, Result, Ok, Err, refl, ap, inl, inr, subst}
 use Rattle.std.specs.List.{AllZip, list_any}
 use Rattle.std.proofs.lemmas.Bool.{cases_Bool, or_right}
 use Rattle.std.specs.Str.{bytes_eq}
 use Rattle.toml.specs.Data.{Members}
 use Rattle.sw_rmap.specs.declared.config.TargetConfig.{TargetConfig}
 use Rattle.sw_route.specs.Looks.{look_of}
-use Rattle.sw_config.specs.Entries.{NodeEntry, SwitchEntry, LinkEntry, Declaration, part_names, flow_names}
+use Rattle.sw_config.specs.Entries.{NodeEntry, SwitchEntry, LinkEntry, FlowEntry, Declaration, part_names, flow_names}
 use Rattle.sw_text.specs.declared.keys.Key.{Key}
-use Rattle.sw_text.specs.declared.keys.Key.TheVariants.{Target, Slots, BufferA, BufferB}
+use Rattle.sw_text.specs.declared.keys.Key.TheVariants.{Target, Slots, BufferA, BufferB, From, To, Reply}
 use Rattle.sw_text.specs.declared.keys.Section.{Section}
 use Rattle.sw_text.specs.declared.keys.Section.TheVariants as section
 use Rattle.sw_text.specs.declared.keys.Version.TheVariants.{One, Two}
@@ -16,12 +16,12 @@ use Rattle.sw_text.specs.declared.fault.TextFault.{TextFault}
 use Rattle.sw_text.specs.Keys.{key_text}
 use Rattle.sw_text.specs.Gives.{walk_from, each}
 use Rattle.sw_text.specs.Table.{is_known, only_known, table_or_none}
-use Rattle.sw_file.specs.Keys.{node_keys, target_keys, link_keys}
-use Rattle.sw_file.specs.Names.{new_name}
+use Rattle.sw_file.specs.Keys.{node_keys, target_keys, link_keys, flow_keys}
+use Rattle.sw_file.specs.Names.{new_name, place_at}
 use Rattle.sw_file.specs.Nodes.{config_of, target_or_none, node_of, next_node}
 use Rattle.sw_file.specs.Switches.{switch_of, next_switch}
 use Rattle.sw_file.specs.Links.{link_of, next_link}
-use Rattle.sw_file.specs.FlowTables.{flow_of, next_flow}
+use Rattle.sw_file.specs.FlowTables.{node_names, reply_of, reply_or_none, addressed, replies_at, flow_of, next_flow}
 use Rattle.sw_file.specs.Tree.{merged_switch}
 use Rattle.sw_file.proofs.Known.{passed}
 use Rattle.sw_file.proofs.Tables.{passes}
@@ -66,7 +66,7 @@ target_two i t c well =
 node_two : (i : ℕ) (taken : List (List ℕ)) (t : Members) (n : NodeEntry) → node_of One i taken t ≡ Ok n → node_of Two i taken t ≡ Ok n
 unfolding node_of
 node_two i taken t n well =
-    let a = bind_ok (only_known (section.Node i) node_keys t) _ n well in
+    let a = bind_ok (only_known (section.Node i) (node_keys One) t) _ n well in
     let b = bind_ok (new_name (section.Node i) taken t) _ n a.2 in
     let c = bind_ok (target_or_none One i t) _ n b.2 in
     rw (a.1, b.1, target_two i t c.0 c.1) c.2
@@ -76,6 +76,30 @@ unfolding link_of
 link_two i nodes names t l well =
     let a = bind_ok (only_known (section.Link i) (link_keys One) t) _ l well in
     rw (passes_more (section.Link i) (link_keys One) (BufferA ∷ BufferB ∷ []) t a.0 a.1) a.2
+
+reply_two : (i : ℕ) (t : Members) → reply_of Two i t ≡ reply_of One i t
+unfolding reply_of
+reply_two i t = refl
+
+reply_at : (i : ℕ) (t : Members) (r : Result (Option Members) TextFault) → table_or_none (section.Flow i) Reply t ≡ r → reply_or_none Two i t ≡ reply_or_none One i t
+unfolding reply_or_none
+reply_at i t (Ok None) there = rw there refl
+reply_at i t (Ok (Some u)) there = rw (there, reply_two i u) refl
+reply_at i t (Err f) there = rw there refl
+
+replies_two : (i : ℕ) (nodes : List NodeEntry) (to : ℕ) (t : Members) → replies_at Two i nodes to t ≡ replies_at One i nodes to t
+unfolding replies_at
+replies_two i nodes to t = rw (reply_at i t (table_or_none (section.Flow i) Reply t) refl) refl
+
+flow_two : (i : ℕ) (nodes : List NodeEntry) (taken : List (List ℕ)) (t : Members) (x : FlowEntry) → flow_of One i nodes taken t ≡ Ok x → flow_of Two i nodes taken t ≡ Ok x
+unfolding flow_of
+flow_two i nodes taken t x well =
+    let a = bind_ok (only_known (section.Flow i) flow_keys t) _ x well in
+    let b = bind_ok (new_name (section.Flow i) taken t) _ x a.2 in
+    let c = bind_ok (place_at (section.Flow i) From (node_names nodes) t) _ x b.2 in
+    let d = bind_ok (place_at (section.Flow i) To (node_names nodes) t) _ x c.2 in
+    let e = bind_ok (addressed i t) _ x d.2 in
+    rw (a.1, b.1, c.1, d.1, e.1, replies_two i nodes d.0 t) e.2
 
 -- the same name, the same policy, and each byte names the same
 pub record IsSameSwitch (s t : SwitchEntry) : Type 0 where
@@ -135,11 +159,11 @@ link_step i d e t n alike well =
           (record { nodes = alike.nodes; links = ap (λ l. l ++ a.0 ∷ []) alike.links; flows = alike.flows; switches = alike.switches });
     }
 
-pub flow_step : (i : ℕ) (d e : Declaration) (t : Members) (n : Declaration) → Alike d e → next_flow i d t ≡ Ok n → Steps (next_flow i e t) n
+pub flow_step : (i : ℕ) (d e : Declaration) (t : Members) (n : Declaration) → Alike d e → next_flow One i d t ≡ Ok n → Steps (next_flow Two i e t) n
 unfolding next_flow
 flow_step i d e t n alike well =
-    let a = bind_ok (flow_of i d.nodes (flow_names d.flows) t) _ n well in
-    let read : flow_of i e.nodes (flow_names e.flows) t ≡ Ok a.0 = rw (alike.nodes, alike.flows) a.1 in
+    let a = bind_ok (flow_of One i d.nodes (flow_names d.flows) t) _ n well in
+    let read : flow_of Two i e.nodes (flow_names e.flows) t ≡ Ok a.0 = rw (alike.nodes, alike.flows) (flow_two i d.nodes (flow_names d.flows) t a.0 a.1) in
     record {
       next = record e { flows = e.flows ++ a.0 ∷ [] };
       is = rw read refl;

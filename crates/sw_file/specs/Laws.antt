@@ -40,14 +40,14 @@ pub record IsDeclaredBy (ms : Members) (version : Version) (d : Declaration) : T
   pub nodes : Declares Node ms (λ i. node_of version i (before_node d i)) d.nodes
   pub switches : Declares Switch ms (λ i. switch_of version i (before_switch d i)) d.switches
   pub links : Declares Link ms (λ i. link_of version i (length d.nodes) (part_names d)) d.links
-  pub flows : Declares Flow ms (λ i. flow_of i d.nodes (flow_names (take i d.flows))) d.flows
+  pub flows : Declares Flow ms (λ i. flow_of version i d.nodes (flow_names (take i d.flows))) d.flows
 
 abbrev pub ReadsEachEntry : Type 0
 ReadsEachEntry = (ms : Members) (d : Declaration) → network_of ms ≡ Ok d → (version : Version) × IsDeclaredBy ms version d
 
 -- a table of a node has its keys alone, and so has its target
 pub record IsKnownNode (version : Version) (i : ℕ) (node : Members) : Type 0 where
-  pub keys : HasOnly node_keys node
+  pub keys : HasOnly (node_keys version) node
   pub target : (target : Members) → table_or_none (section.Node i) Target node ≡ Ok (Some target) → HasOnly (target_keys version) target
 
 -- so has a table of a switch, and each entry of its routing table
@@ -56,9 +56,9 @@ pub record IsKnownSwitch (version : Version) (i : ℕ) (switch : Members) : Type
   pub routes : (routes : List Members) (j : ℕ) (route : Members) → tables_or_none (section.Switch i) Route switch ≡ Ok routes → slice_get routes j ≡ Some route → HasOnly (route_keys version) route
 
 -- so has a table of a flow, and its reply
-pub record IsKnownFlow (i : ℕ) (flow : Members) : Type 0 where
+pub record IsKnownFlow (version : Version) (i : ℕ) (flow : Members) : Type 0 where
   pub keys : HasOnly flow_keys flow
-  pub reply : (reply : Members) → table_or_none (section.Flow i) Reply flow ≡ Ok (Some reply) → HasOnly reply_keys reply
+  pub reply : (reply : Members) → table_or_none (section.Flow i) Reply flow ≡ Ok (Some reply) → HasOnly (reply_keys version) reply
 
 -- each table of the document's list at the key is as P says
 abbrev pub EachTable : Key → Members → (ℕ → Members → Type 0) → Type 0
@@ -71,7 +71,7 @@ pub record IsKnownDocument (version : Version) (ms : Members) : Type 0 where
   pub nodes : EachTable Node ms (IsKnownNode version)
   pub switches : EachTable Switch ms (IsKnownSwitch version)
   pub links : EachTable Link ms (λ i link. HasOnly (link_keys version) link)
-  pub flows : EachTable Flow ms IsKnownFlow
+  pub flows : EachTable Flow ms (IsKnownFlow version)
 
 -- an unknown key anywhere in the document refuses the text
 abbrev pub RefusesUnknownKeys : Type 0
