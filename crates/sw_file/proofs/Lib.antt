@@ -22,6 +22,7 @@ mod RowsApart
 mod PutMembers
 pub mod RowEntries
 mod RowRoutes
+mod Raised
 mod NewTables
 mod NewSwitches
 mod NewParts
