@@ -23,6 +23,7 @@ mod PutMembers
 pub mod RowEntries
 mod RowRoutes
 mod Raised
+mod Renumbered
 mod NewTables
 mod NewSwitches
 mod NewParts

@@ -1,12 +1,13 @@
--- What reading a network file comes to, and what the rows of a migrated one are.
-use Rattle.std.specs.Prelude.{◌≡◌, ◌≢◌, ◌↔◌, ℕ, suc, true, false, All, AllPairs, List, [], length, take, slice_get, Some, Result, Ok}
-use Rattle.toml.specs.Data.{Members}
+-- What reading a network file comes to, in each version, and what the rows of a migrated one are.
+use Rattle.std.specs.Prelude.{◌≡◌, ◌≢◌, ◌↔◌, ℕ, suc, true, false, pos, All, AllPairs, List, [], length, take, slice_get, Some, Result, Ok}
+use Rattle.toml.specs.Data.{Members, integer}
 use Rattle.sw_config.specs.Entries.{Declaration, part_names, flow_names, all_flows}
 use Rattle.sw_config.specs.Valid.{IsValid}
 use Rattle.sw_text.specs.declared.keys.Key.{Key}
-use Rattle.sw_text.specs.declared.keys.Key.TheVariants.{Node, Switch, Link, Flow, Target, Route, Reply}
+use Rattle.sw_text.specs.declared.keys.Key.TheVariants.{Version as VersionKey, Node, Switch, Link, Flow, Target, Route, Reply}
 use Rattle.sw_text.specs.declared.keys.Section.TheVariants as section
 use Rattle.sw_text.specs.declared.keys.Version.{Version}
+use Rattle.sw_text.specs.declared.keys.Version.TheVariants.{Two, Three}
 use Rattle.sw_text.specs.declared.fault.TextFault.{TextFault}
 use Rattle.sw_text.specs.Table.{tables_or_none, table_or_none}
 use Rattle.sw_text.specs.Names.{is_name}
@@ -19,6 +20,7 @@ use Rattle.sw_file.specs.FlowTables.{flow_of}
 use Rattle.sw_file.specs.Network.{version_of, network_of, network_text}
 use Rattle.sw_file.specs.Tables.{IsNetworkText}
 use Rattle.sw_file.specs.Rows.{Entry, Row, goes_on, rows}
+use Rattle.sw_file.specs.Tree.{with_key}
 
 -- the document's list at the key has one table for each entry, and entry i is what table i declares
 pub record Declares {A : Type 0} (key : Key) (ms : Members) (declared : ℕ → Members → Result A TextFault) (entries : List A) : Type 0 where
@@ -94,6 +96,14 @@ pub record HasNames (d : Declaration) : Type 0 where
 -- so it is in each network that is read
 abbrev pub ReadNamesAreNames : Type 0
 ReadNamesAreNames = (bytes : List ℕ) (d : Declaration) → network_text bytes ≡ Ok d → HasNames d
+
+-- the document's table with the number 3 as its version
+abbrev pub as_version_three : Members → Members
+as_version_three ms = with_key VersionKey (integer (pos 3)) ms
+
+-- a file of version 2 becomes one of version 3 by its number alone, and declares the same network
+abbrev pub VersionTwoIsKept : Type 0
+VersionTwoIsKept = (ms : Members) (d : Declaration) → version_of ms ≡ Ok Two → network_of ms ≡ Ok d → (version_of (as_version_three ms) ≡ Ok Three) × (network_of (as_version_three ms) ≡ Ok d)
 
 -- Rows are the longest: no row's first entry goes on with the row before it.
 abbrev pub RowsAreLongest : Type 0
