@@ -1,7 +1,7 @@
 -- A document is a network exactly where it is as the words say.
 use Rattle.std.proofs.Common.{◌≡◌, ◌≢◌, ℕ, ◌≤◌, List, [], ◌∷◌, ◌++◌, map, length, Option, Some, None, Result, Ok, Err, AllPairs, refl, sym, subst, ap, ◌∙◌, arith, inl, inr, append_assoc}
-use Rattle.std.specs.Prelude.{nat_le, ◌==◌, if◌then◌else◌}
-use Rattle.std.proofs.lemmas.Bool.{cases_lt, eq-eqb, leb-true, le-leb}
+use Rattle.std.specs.Prelude.{nat_le, if◌then◌else◌}
+use Rattle.std.proofs.lemmas.Bool.{cases_lt, leb-true, le-leb}
 use Rattle.std.proofs.lemmas.List.{append-nil, map_push, length-append, get_or_append_left}
 use Rattle.toml.specs.Data.{Members}
 use Rattle.sw_topo.specs.declared.limits.TheConstants.{MAX_NODES, MAX_SWITCHES, MAX_LINKS, MAX_FLOWS}
@@ -14,7 +14,7 @@ use Rattle.sw_text.specs.declared.keys.Key.{Key}
 use Rattle.sw_text.specs.declared.keys.Key.TheVariants.{Version as VersionKey, Node, Switch, Link, Flow}
 use Rattle.sw_text.specs.declared.keys.Section.TheVariants as section
 use Rattle.sw_text.specs.declared.keys.Version.{Version}
-use Rattle.sw_text.specs.declared.keys.Version.TheVariants.{One, Two}
+use Rattle.sw_text.specs.declared.keys.Version.TheVariants.{One, Two, Three}
 use Rattle.sw_text.specs.declared.fault.KeyFault.TheVariants.{OutOfRange}
 use Rattle.sw_text.specs.declared.fault.TextFault.{TextFault}
 use Rattle.sw_text.specs.declared.fault.TextFault.TheVariants as fault
@@ -27,7 +27,7 @@ use Rattle.sw_file.specs.Nodes.{node_of, next_node}
 use Rattle.sw_file.specs.Switches.{switch_of, next_switch}
 use Rattle.sw_file.specs.Links.{link_of, next_link}
 use Rattle.sw_file.specs.FlowTables.{flow_of, next_flow}
-use Rattle.sw_file.specs.Network.{version_of, entries, with_nodes, with_switches, with_links, with_parts, wired, with_flows, network_of, network_text}
+use Rattle.sw_file.specs.Network.{version_numbered, version_of, entries, with_nodes, with_switches, with_links, with_parts, wired, with_flows, network_of, network_text}
 use Rattle.sw_file.specs.Values.{IsNumber, Has, HasTables}
 use Rattle.sw_file.specs.Tables.{IsNodeTable, IsSwitchTable, IsLinkTable, IsFlowTable, version_number, IsNetworkTable, IsNetworkText}
 use Rattle.sw_file.specs.Laws.{NetworksAreReadExactly}
@@ -47,33 +47,32 @@ pairs_start xs ys pairs = subst (AllPairs (λ x y. x ≢ y)) (sym (append-nil xs
     pairs i j d lt (rw length-append (omega (arith, inside))) (get_or_append_left xs ys d i (omega (arith, lt, inside)) ∙ same ∙ sym (get_or_append_left xs ys d j inside)))
 
 -- the version
-number_of_version : (n : ℕ) (version : Version) → 1 ≤ n → n ≤ 2 → (if n == 1 then One else Two) ≡ version → n ≡ version_number version
-number_of_version n version least most is =
+number_of_version : (n : ℕ) → 1 ≤ n → n ≤ 3 → n ≡ version_number (version_numbered n)
+number_of_version n least most =
     elim (cases_lt n 2) [
-      | inl below ↦
-          let one : n ≡ 1 = omega arith in
-          let first : One ≡ version = rw (eq-eqb n 1 one) at is in
-          subst (λ v. n ≡ version_number v) first one
+      | inl below ↦ let one : n ≡ 1 = omega arith in subst (λ m. m ≡ version_number (version_numbered m)) (sym one) refl
       | inr above ↦
-          let two : n ≡ 2 = omega arith in
-          let second : Two ≡ version = rw two at is in
-          subst (λ v. n ≡ version_number v) second two
+          elim (cases_lt n 3) [
+            | inl under ↦ let two : n ≡ 2 = omega arith in subst (λ m. m ≡ version_number (version_numbered m)) (sym two) refl
+            | inr past ↦ let three : n ≡ 3 = omega arith in subst (λ m. m ≡ version_number (version_numbered m)) (sym three) refl
+          ]
     ]
 
-pub has_version : (ms : Members) (version : Version) → version_of ms ≡ Ok version → HasOnly document_keys ms × Has (IsNumber 1 2) VersionKey ms (version_number version)
+pub has_version : (ms : Members) (version : Version) → version_of ms ≡ Ok version → HasOnly document_keys ms × Has (IsNumber 1 3) VersionKey ms (version_number version)
 unfolding version_of
 has_version ms version h =
     well (only_known section.Document document_keys ms) version (λ f is. rw is at h) (λ u keys.
-    well (number_at section.Document VersionKey 1 2 ms) version (λ f is. rw (keys, is) at h) (λ n at_n.
-    let made : Ok (if n == 1 then One else Two) ≡ Ok version = rw (keys, at_n) at h in
-    let same : (if n == 1 then One else Two) ≡ version = cc in
-    let is = has_number section.Document VersionKey ms 1 2 n at_n in
-    (passed section.Document document_keys ms u keys, subst (Has (IsNumber 1 2) VersionKey ms) (number_of_version n version is.is.least is.is.most same) is)))
+    well (number_at section.Document VersionKey 1 3 ms) version (λ f is. rw (keys, is) at h) (λ n at_n.
+    let made : Ok (version_numbered n) ≡ Ok version = rw (keys, at_n) at h in
+    let same : version_numbered n ≡ version = cc in
+    let is = has_number section.Document VersionKey ms 1 3 n at_n in
+    (passed section.Document document_keys ms u keys, subst (Has (IsNumber 1 3) VersionKey ms) (number_of_version n is.is.least is.is.most ∙ ap version_number same) is)))
 
-pub version_is : (ms : Members) (version : Version) → HasOnly document_keys ms → Has (IsNumber 1 2) VersionKey ms (version_number version) → version_of ms ≡ Ok version
+pub version_is : (ms : Members) (version : Version) → HasOnly document_keys ms → Has (IsNumber 1 3) VersionKey ms (version_number version) → version_of ms ≡ Ok version
 unfolding version_of
-version_is ms One keys is = rw (passes section.Document document_keys ms keys, has_number_it section.Document VersionKey ms 1 2 1 is) refl
-version_is ms Two keys is = rw (passes section.Document document_keys ms keys, has_number_it section.Document VersionKey ms 1 2 2 is) refl
+version_is ms One keys is = rw (passes section.Document document_keys ms keys, has_number_it section.Document VersionKey ms 1 3 1 is) refl
+version_is ms Two keys is = rw (passes section.Document document_keys ms keys, has_number_it section.Document VersionKey ms 1 3 2 is) refl
+version_is ms Three keys is = rw (passes section.Document document_keys ms keys, has_number_it section.Document VersionKey ms 1 3 3 is) refl
 
 -- a list that is not too long
 has_entries : (key : Key) (most : ℕ) (over : TextFault) (ms : Members) (ts : List Members) → entries key most over ms ≡ Ok ts → (tables_or_none section.Document key ms ≡ Ok ts) × (length ts ≤ most)
@@ -193,37 +192,37 @@ module _ (version : Version) where
           (λ i es x e is free. link_is version i (length ns) (part_names (with_those ss)) x e is) 0 [] ts.0 ls ts.2 (λ a b d lt inside. tt))
 
 -- the flows
-module _ (ns : List NodeEntry) (ss : List SwitchEntry) (ls : List LinkEntry) where
+module _ (version : Version) (ns : List NodeEntry) (ss : List SwitchEntry) (ls : List LinkEntry) where
   abbrev all_of_it : List FlowEntry → Declaration
   all_of_it fs = parts ns ss ls fs
 
   abbrev read_flow : ℕ → List FlowEntry → Members → Result FlowEntry TextFault
-  read_flow i es = flow_of i ns (flow_names es)
+  read_flow i es = flow_of version i ns (flow_names es)
 
-  flow_steps : (i : ℕ) (es : List FlowEntry) (x : Members) → next_flow i (all_of_it es) x ≡ (read_flow i es x >>= λ e. Ok (all_of_it (es ++ e ∷ [])))
+  flow_steps : (i : ℕ) (es : List FlowEntry) (x : Members) → next_flow version i (all_of_it es) x ≡ (read_flow i es x >>= λ e. Ok (all_of_it (es ++ e ∷ [])))
   unfolding next_flow
   flow_steps i es x = refl
 
   one_flow_more : (es : List FlowEntry) (e : FlowEntry) → flow_names (es ++ e ∷ []) ≡ flow_names es ++ e.name ∷ []
   one_flow_more es e = map_push (λ (x : FlowEntry). x.name) es e
 
-  has_flows : (ms : Members) (t : Declaration) → with_flows (all_of_it []) ms ≡ Ok t
-      → (fs : List FlowEntry) × (t ≡ all_of_it fs) × HasTables (IsFlowTable ns) Flow ms fs × (length fs ≤ MAX_FLOWS) × AllPairs Differ (flow_names fs)
+  has_flows : (ms : Members) (t : Declaration) → with_flows version (all_of_it []) ms ≡ Ok t
+      → (fs : List FlowEntry) × (t ≡ all_of_it fs) × HasTables (IsFlowTable version ns) Flow ms fs × (length fs ≤ MAX_FLOWS) × AllPairs Differ (flow_names fs)
   unfolding with_flows
   has_flows ms t h =
-      let ts = bind_ok (entries Flow MAX_FLOWS (fault.Key OutOfRange section.Document Flow) ms) (λ tables. walk next_flow (all_of_it []) tables) t h in
+      let ts = bind_ok (entries Flow MAX_FLOWS (fault.Key OutOfRange section.Document Flow) ms) (λ tables. walk (next_flow version) (all_of_it []) tables) t h in
       let fits = has_entries Flow MAX_FLOWS (fault.Key OutOfRange section.Document Flow) ms ts.0 ts.1 in
-      let w = walked next_flow read_flow all_of_it (IsFlowTable ns) (λ e. e.name) flow_names Differ flow_steps one_flow_more
-      (λ i es x e. is_flow i ns (flow_names es) x e) 0 [] ts.0 t ts.2 (λ a b d lt inside. absurd (omega arith)) in
-      (w.0, w.1, joined section.Document Flow ms (IsFlowTable ns) ts.0 w.0 (has_tables section.Document Flow ms ts.0 fits.0) w.2, omega (arith, fits.1, as_long (IsFlowTable ns) ts.0 w.0 w.2), w.3)
+      let w = walked (next_flow version) read_flow all_of_it (IsFlowTable version ns) (λ e. e.name) flow_names Differ flow_steps one_flow_more
+      (λ i es x e. is_flow version i ns (flow_names es) x e) 0 [] ts.0 t ts.2 (λ a b d lt inside. absurd (omega arith)) in
+      (w.0, w.1, joined section.Document Flow ms (IsFlowTable version ns) ts.0 w.0 (has_tables section.Document Flow ms ts.0 fits.0) w.2, omega (arith, fits.1, as_long (IsFlowTable version ns) ts.0 w.0 w.2), w.3)
 
-  flows_are : (ms : Members) (fs : List FlowEntry) → HasTables (IsFlowTable ns) Flow ms fs → length fs ≤ MAX_FLOWS → AllPairs Differ (flow_names fs) → with_flows (all_of_it []) ms ≡ Ok (all_of_it fs)
+  flows_are : (ms : Members) (fs : List FlowEntry) → HasTables (IsFlowTable version ns) Flow ms fs → length fs ≤ MAX_FLOWS → AllPairs Differ (flow_names fs) → with_flows version (all_of_it []) ms ≡ Ok (all_of_it fs)
   unfolding with_flows
   flows_are ms fs is few pairs =
-      let ts = parted section.Document Flow ms (IsFlowTable ns) fs is in
-      rw (entries_are Flow MAX_FLOWS (fault.Key OutOfRange section.Document Flow) ms ts.0 (tables_is section.Document Flow ms ts.0 ts.1) (omega (arith, few, as_long (IsFlowTable ns) ts.0 fs ts.2)))
-      (walks next_flow read_flow all_of_it (IsFlowTable ns) (λ e. e.name) flow_names Differ flow_steps one_flow_more
-      (λ i es x e. flow_is i ns (flow_names es) x e) 0 [] ts.0 fs ts.2 pairs)
+      let ts = parted section.Document Flow ms (IsFlowTable version ns) fs is in
+      rw (entries_are Flow MAX_FLOWS (fault.Key OutOfRange section.Document Flow) ms ts.0 (tables_is section.Document Flow ms ts.0 ts.1) (omega (arith, few, as_long (IsFlowTable version ns) ts.0 fs ts.2)))
+      (walks (next_flow version) read_flow all_of_it (IsFlowTable version ns) (λ e. e.name) flow_names Differ flow_steps one_flow_more
+      (λ i es x e. flow_is version i ns (flow_names es) x e) 0 [] ts.0 fs ts.2 pairs)
 
 -- how the parts are joined
 has_joined : (d n : Declaration) (o : Option TopoFault) → fault_of (wiring_of d) ≡ o → wired d ≡ Ok n → (n ≡ d) × (fault_of (wiring_of d) ≡ None)
@@ -233,19 +232,19 @@ has_joined d n (Some f) is h = let e : Err (fault.Topology f) ≡ Ok n = rw is a
 abbrev after_nodes : Version → Members → Declaration → Result Declaration TextFault
 after_nodes version ms d = with_switches version d ms >>= λ switches. with_links version switches ms
 
-is_document : (version : Version) (ms : Members) (d : Declaration) → version_of ms ≡ Ok version → (with_parts version empty ms >>= after_links ms) ≡ Ok d → IsNetworkTable version ms d
+is_document : (version : Version) (ms : Members) (d : Declaration) → version_of ms ≡ Ok version → (with_parts version empty ms >>= after_links version ms) ≡ Ok d → IsNetworkTable version ms d
 unfolding with_parts
 is_document version ms d at_version h =
-    let whole = bind_ok (with_parts version empty ms) (after_links ms) d h in
+    let whole = bind_ok (with_parts version empty ms) (after_links version ms) d h in
     let first = bind_ok (with_nodes version empty ms) (after_nodes version ms) whole.0 whole.1 in
     let ns = has_nodes version ms first.0 first.1 in
     let second = bind_ok (with_switches version (nodes_only version ns.0) ms) (λ switches. with_links version switches ms) whole.0 (subst (λ x. after_nodes version ms x ≡ Ok whole.0) ns.1 first.2) in
     let ss = has_switches version ns.0 ms second.0 second.1 ns.4 in
     let ls = has_links version ns.0 ss.0 ms whole.0 (subst (λ x. with_links version x ms ≡ Ok whole.0) ss.1 second.2) in
     let made : Declaration = parts ns.0 ss.0 ls.0 [] in
-    let third = bind_ok (wired made) (λ n. with_flows n ms) d (subst (λ x. after_links ms x ≡ Ok d) ls.1 whole.2) in
+    let third = bind_ok (wired made) (λ n. with_flows version n ms) d (subst (λ x. after_links version ms x ≡ Ok d) ls.1 whole.2) in
     let whole_one = has_joined made third.0 (fault_of (wiring_of made)) refl third.1 in
-    let fs = has_flows ns.0 ss.0 ls.0 ms d (subst (λ x. with_flows x ms ≡ Ok d) whole_one.0 third.2) in
+    let fs = has_flows version ns.0 ss.0 ls.0 ms d (subst (λ x. with_flows version x ms ≡ Ok d) whole_one.0 third.2) in
     let document = has_version ms version at_version in
     subst (IsNetworkTable version ms) (sym fs.1) (record {
       keys = document.0;
@@ -266,7 +265,7 @@ is_document version ms d at_version h =
 pub is_network : (ms : Members) (d : Declaration) → network_of ms ≡ Ok d → (version : Version) × IsNetworkTable version ms d
 unfolding network_of
 is_network ms d h =
-    let v = bind_ok (version_of ms) (λ version. with_parts version empty ms >>= after_links ms) d h in
+    let v = bind_ok (version_of ms) (λ version. with_parts version empty ms >>= after_links version ms) d h in
     (v.0, is_document v.0 ms d v.1 v.2)
 
 parts_are : (version : Version) (ms : Members) (d : Declaration) → IsNetworkTable version ms d → with_parts version empty ms ≡ Ok (parts d.nodes d.switches d.links [])
@@ -281,7 +280,7 @@ parts_are version ms d is =
 pub document_is : (version : Version) (ms : Members) (d : Declaration) → IsNetworkTable version ms d → network_of ms ≡ Ok d
 unfolding network_of
 document_is version ms d is =
-    rw (version_is ms version is.keys is.versioned, parts_are version ms d is, is.joined) (flows_are d.nodes d.switches d.links ms d.flows is.flows is.few_flows is.flows_named)
+    rw (version_is ms version is.keys is.versioned, parts_are version ms d is, is.joined) (flows_are version d.nodes d.switches d.links ms d.flows is.flows is.few_flows is.flows_named)
 
 is_text : (bytes : List ℕ) (d : Declaration) → network_text bytes ≡ Ok d → IsNetworkText bytes d
 is_text bytes d h =

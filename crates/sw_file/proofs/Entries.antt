@@ -145,28 +145,28 @@ link_stage version ms d t well =
       },
     )
 
-abbrev read_flow : ℕ → Declaration → Members → Result FlowEntry TextFault
-read_flow i s = flow_of i s.nodes (flow_names s.flows)
+abbrev read_flow : Version → ℕ → Declaration → Members → Result FlowEntry TextFault
+read_flow version i s = flow_of version i s.nodes (flow_names s.flows)
 
-flow_steps : (i : ℕ) (s : Declaration) (x : Members) → next_flow i s x ≡ (flow_of i s.nodes (flow_names s.flows) x >>= λ e. Ok (add_flow s e))
+flow_steps : (version : Version) (i : ℕ) (s : Declaration) (x : Members) → next_flow version i s x ≡ (flow_of version i s.nodes (flow_names s.flows) x >>= λ e. Ok (add_flow s e))
 unfolding next_flow
-flow_steps i s x = refl
+flow_steps version i s x = refl
 
-flow_stage : (ms : Members) (d t : Declaration) → with_flows d ms ≡ Ok t
-    → (es : List FlowEntry) × (t ≡ record d { flows = d.flows ++ es }) × Declares Flow ms (λ i. flow_of i d.nodes (flow_names (d.flows ++ take i es))) es
+flow_stage : (version : Version) (ms : Members) (d t : Declaration) → with_flows version d ms ≡ Ok t
+    → (es : List FlowEntry) × (t ≡ record d { flows = d.flows ++ es }) × Declares Flow ms (λ i. flow_of version i d.nodes (flow_names (d.flows ++ take i es))) es
 unfolding with_flows
-flow_stage ms d t well =
-    let parts = bind_ok (entries Flow MAX_FLOWS (fault.Key OutOfRange section.Document Flow) ms) (λ tables. walk next_flow d tables) t well in
-    let grown = grown_from next_flow read_flow add_flow flow_steps 0 d t parts.0 parts.2 in (
+flow_stage version ms d t well =
+    let parts = bind_ok (entries Flow MAX_FLOWS (fault.Key OutOfRange section.Document Flow) ms) (λ tables. walk (next_flow version) d tables) t well in
+    let grown = grown_from (next_flow version) (read_flow version) add_flow (flow_steps version) 0 d t parts.0 parts.2 in (
       grown.0,
       grown.1 ∙ add_flows d grown.0,
       record {
         tables = parts.0;
         listed = listed Flow MAX_FLOWS (fault.Key OutOfRange section.Document Flow) ms parts.0 parts.1;
-        as_many = as_many next_flow read_flow add_flow flow_steps 0 d parts.0 grown.0 grown.2;
+        as_many = as_many (next_flow version) (read_flow version) add_flow (flow_steps version) 0 d parts.0 grown.0 grown.2;
         each = λ i x e here there.
             let z : 0 + i ≡ i = omega arith in
-            let at : read_flow (0 + i) (fold add_flow d (take i grown.0)) x ≡ Ok e = entry_at next_flow read_flow add_flow flow_steps 0 d parts.0 grown.0 grown.2 i x e here there in
+            let at : read_flow version (0 + i) (fold add_flow d (take i grown.0)) x ≡ Ok e = entry_at (next_flow version) (read_flow version) add_flow (flow_steps version) 0 d parts.0 grown.0 grown.2 i x e here there in
             rw (z, add_flows d (take i grown.0)) at at;
       },
     )
@@ -176,20 +176,20 @@ wired_same d n None is well = let e : Ok d ≡ Ok n = rw is at well in cc
 wired_same d n (Some f) is well = let e : Err (fault.Topology f) ≡ Ok n = rw is at well in absurd cc
 
 -- what is read after the links, after the switches and after the nodes
-abbrev pub after_links : Members → Declaration → Result Declaration TextFault
-after_links ms d = wired d >>= λ n. with_flows n ms
+abbrev pub after_links : Version → Members → Declaration → Result Declaration TextFault
+after_links version ms d = wired d >>= λ n. with_flows version n ms
 
 abbrev after_switches : Version → Members → Declaration → Result Declaration TextFault
-after_switches version ms d = with_links version d ms >>= after_links ms
+after_switches version ms d = with_links version d ms >>= after_links version ms
 
 abbrev after_nodes : Version → Members → Declaration → Result Declaration TextFault
 after_nodes version ms d = with_switches version d ms >>= after_switches version ms
 
 -- the parts are read one kind after another
-parts_first : (ms : Members) (version : Version) (d : Declaration) → (with_parts version empty ms >>= after_links ms) ≡ Ok d → (with_nodes version empty ms >>= after_nodes version ms) ≡ Ok d
+parts_first : (ms : Members) (version : Version) (d : Declaration) → (with_parts version empty ms >>= after_links version ms) ≡ Ok d → (with_nodes version empty ms >>= after_nodes version ms) ≡ Ok d
 unfolding with_parts
 parts_first ms version d well =
-    let a = bind_ok (with_parts version empty ms) (after_links ms) d well in
+    let a = bind_ok (with_parts version empty ms) (after_links version ms) d well in
     let b = bind_ok (with_nodes version empty ms) (λ nodes. with_switches version nodes ms >>= λ switches. with_links version switches ms) a.0 a.1 in
     let c = bind_ok (with_switches version b.0 ms) (λ switches. with_links version switches ms) a.0 b.2 in
     rw (b.1, c.1, c.2) a.2
@@ -204,18 +204,18 @@ declared_by ms version d versioned well =
     let ss = switch_stage version ms first b.0 b.1 in
     let second : Declaration = record { nodes = ns.0; switches = ss.0; links = []; flows = [] } in
     let from_switches : after_switches version ms second ≡ Ok d = rw ss.1 at b.2 in
-    let c = bind_ok (with_links version second ms) (after_links ms) d from_switches in
+    let c = bind_ok (with_links version second ms) (after_links version ms) d from_switches in
     let ls = link_stage version ms second c.0 c.1 in
     let third : Declaration = record { nodes = ns.0; switches = ss.0; links = ls.0; flows = [] } in
-    let from_links : after_links ms third ≡ Ok d = rw ls.1 at c.2 in
-    let e = bind_ok (wired third) (λ n. with_flows n ms) d from_links in
+    let from_links : after_links version ms third ≡ Ok d = rw ls.1 at c.2 in
+    let e = bind_ok (wired third) (λ n. with_flows version n ms) d from_links in
     let same : e.0 ≡ third = wired_same third e.0 (fault_of (wiring_of third)) refl e.1 in
-    let joined : with_flows third ms ≡ Ok d = rw same at e.2 in
-    let fs = flow_stage ms third d joined in
+    let joined : with_flows version third ms ≡ Ok d = rw same at e.2 in
+    let fs = flow_stage version ms third d joined in
     rw fs.1 record { versioned = versioned; nodes = ns.2; switches = ss.2; links = ls.2; flows = fs.2 }
 
 pub reads_each_entry : ReadsEachEntry
 unfolding network_of
 reads_each_entry ms d well =
-    let v = bind_ok (version_of ms) (λ version. with_parts version empty ms >>= after_links ms) d well in
+    let v = bind_ok (version_of ms) (λ version. with_parts version empty ms >>= after_links version ms) d well in
     (v.0, declared_by ms v.0 d v.1 (parts_first ms v.0 d v.2))

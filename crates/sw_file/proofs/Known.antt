@@ -60,10 +60,10 @@ known_target version i ms target y fine there =
 known_node : (version : Version) (i : ℕ) (taken : List (List ℕ)) (ms : Members) (e : NodeEntry) → node_of version i taken ms ≡ Ok e → IsKnownNode version i ms
 unfolding node_of
 known_node version i taken ms e fine =
-    well (only_known (section.Node i) node_keys ms) e (λ f is. rw is at fine) (λ keys keys_is.
+    well (only_known (section.Node i) (node_keys version) ms) e (λ f is. rw is at fine) (λ keys keys_is.
     well (new_name (section.Node i) taken ms) e (λ f is. rw (keys_is, is) at fine) (λ name name_is.
     well (target_or_none version i ms) e (λ f is. rw (keys_is, name_is, is) at fine) (λ target target_is.
-    record { keys = passed (section.Node i) node_keys ms keys keys_is; target = λ table there. known_target version i ms table target target_is there })))
+    record { keys = passed (section.Node i) (node_keys version) ms keys keys_is; target = λ table there. known_target version i ms table target target_is there })))
 
 known_route : (version : Version) (i j : ℕ) (before after : List RouteEntry) (ms : Members) → next_route version i j before ms ≡ Ok after → HasOnly (route_keys version) ms
 unfolding next_route route_of
@@ -92,28 +92,28 @@ known_link version i nodes names ms e fine =
     well (only_known (section.Link i) (link_keys version) ms) e (λ f is. rw is at fine) (λ keys keys_is.
     passed (section.Link i) (link_keys version) ms keys keys_is)
 
-known_reply : (i : ℕ) (ms reply : Members) (y : Option ReplyEntry) → reply_or_none i ms ≡ Ok y → table_or_none (section.Flow i) Reply ms ≡ Ok (Some reply) → HasOnly reply_keys reply
+known_reply : (version : Version) (i : ℕ) (ms reply : Members) (y : Option ReplyEntry) → reply_or_none version i ms ≡ Ok y → table_or_none (section.Flow i) Reply ms ≡ Ok (Some reply) → HasOnly (reply_keys version) reply
 unfolding reply_or_none reply_of
-known_reply i ms reply y fine there =
-    well (only_known (section.Reply i) reply_keys reply) y (λ f is. rw (there, is) at fine) (λ keys keys_is.
-    passed (section.Reply i) reply_keys reply keys keys_is)
+known_reply version i ms reply y fine there =
+    well (only_known (section.Reply i) (reply_keys version) reply) y (λ f is. rw (there, is) at fine) (λ keys keys_is.
+    passed (section.Reply i) (reply_keys version) reply keys keys_is)
 
-known_replies : (i : ℕ) (nodes : List NodeEntry) (to : ℕ) (ms reply : Members) (y : Option ReplyEntry) → replies_at i nodes to ms ≡ Ok y → table_or_none (section.Flow i) Reply ms ≡ Ok (Some reply) → HasOnly reply_keys reply
+known_replies : (version : Version) (i : ℕ) (nodes : List NodeEntry) (to : ℕ) (ms reply : Members) (y : Option ReplyEntry) → replies_at version i nodes to ms ≡ Ok y → table_or_none (section.Flow i) Reply ms ≡ Ok (Some reply) → HasOnly (reply_keys version) reply
 unfolding replies_at
-known_replies i nodes to ms reply y fine there =
-    let read = bind_ok (reply_or_none i ms) (λ r. if can_reply nodes to r then Ok r else Err (fault.ReplyShape i)) y fine in
-    known_reply i ms reply read.0 read.1 there
+known_replies version i nodes to ms reply y fine there =
+    let read = bind_ok (reply_or_none version i ms) (λ r. if can_reply nodes to r then Ok r else Err (fault.ReplyShape i)) y fine in
+    known_reply version i ms reply read.0 read.1 there
 
-known_flow : (i : ℕ) (nodes : List NodeEntry) (taken : List (List ℕ)) (ms : Members) (e : FlowEntry) → flow_of i nodes taken ms ≡ Ok e → IsKnownFlow i ms
+known_flow : (version : Version) (i : ℕ) (nodes : List NodeEntry) (taken : List (List ℕ)) (ms : Members) (e : FlowEntry) → flow_of version i nodes taken ms ≡ Ok e → IsKnownFlow version i ms
 unfolding flow_of
-known_flow i nodes taken ms e fine =
+known_flow version i nodes taken ms e fine =
     well (only_known (section.Flow i) flow_keys ms) e (λ f is. rw is at fine) (λ keys keys_is.
     well (new_name (section.Flow i) taken ms) e (λ f is. rw (keys_is, is) at fine) (λ name name_is.
     well (place_at (section.Flow i) From (node_names nodes) ms) e (λ f is. rw (keys_is, name_is, is) at fine) (λ from from_is.
     well (place_at (section.Flow i) To (node_names nodes) ms) e (λ f is. rw (keys_is, name_is, from_is, is) at fine) (λ to to_is.
     well (addressed i ms) e (λ f is. rw (keys_is, name_is, from_is, to_is, is) at fine) (λ way way_is.
-    well (replies_at i nodes to ms) e (λ f is. rw (keys_is, name_is, from_is, to_is, way_is, is) at fine) (λ reply reply_is.
-    record { keys = passed (section.Flow i) flow_keys ms keys keys_is; reply = λ table there. known_replies i nodes to ms table reply reply_is there }))))))
+    well (replies_at version i nodes to ms) e (λ f is. rw (keys_is, name_is, from_is, to_is, way_is, is) at fine) (λ reply reply_is.
+    record { keys = passed (section.Flow i) flow_keys ms keys keys_is; reply = λ table there. known_replies version i nodes to ms table reply reply_is there }))))))
 
 known_document : (version : Version) (ms : Members) → version_of ms ≡ Ok version → HasOnly document_keys ms
 unfolding version_of
@@ -145,6 +145,6 @@ refuses_unknown_keys ms d fine =
         nodes = λ tables i table listed here. let e = entry_of Node ms (λ n. node_of version n (before_node d n)) d.nodes is.nodes tables i table listed here in known_node version i (before_node d i) table e.0 e.1;
         switches = λ tables i table listed here. let e = entry_of Switch ms (λ n. switch_of version n (before_switch d n)) d.switches is.switches tables i table listed here in known_switch version i (before_switch d i) table e.0 e.1;
         links = λ tables i table listed here. let e = entry_of Link ms (λ n. link_of version n (length d.nodes) (part_names d)) d.links is.links tables i table listed here in known_link version i (length d.nodes) (part_names d) table e.0 e.1;
-        flows = λ tables i table listed here. let e = entry_of Flow ms (λ n. flow_of n d.nodes (flow_names (take n d.flows))) d.flows is.flows tables i table listed here in known_flow i d.nodes (flow_names (take i d.flows)) table e.0 e.1;
+        flows = λ tables i table listed here. let e = entry_of Flow ms (λ n. flow_of version n d.nodes (flow_names (take n d.flows))) d.flows is.flows tables i table listed here in known_flow version i d.nodes (flow_names (take i d.flows)) table e.0 e.1;
       },
     )

@@ -22,6 +22,8 @@ mod RowsApart
 mod PutMembers
 pub mod RowEntries
 mod RowRoutes
+mod Raised
+mod Renumbered
 mod NewTables
 mod NewSwitches
 mod NewParts

@@ -30,7 +30,7 @@ has_names : (version : Version) (ms : Members) (d : Declaration) → IsNetworkTa
 has_names version ms d is =
     let nodes : All (λ (n : NodeEntry). IsName n.name) d.nodes = of_each (IsNodeTable version) (λ n. IsName n.name) (λ t n table. table.named.form) _ ms d.nodes is.nodes in
     let switches : All (λ (s : SwitchEntry). IsName s.name) d.switches = of_each (IsSwitchTable version) (λ s. IsName s.name) (λ t s table. table.named.form) _ ms d.switches is.switches in
-    let flows : All (λ (f : FlowEntry). IsName f.name) d.flows = of_each (IsFlowTable d.nodes) (λ f. IsName f.name) (λ t f table. table.named.form) _ ms d.flows is.flows in
+    let flows : All (λ (f : FlowEntry). IsName f.name) d.flows = of_each (IsFlowTable version d.nodes) (λ f. IsName f.name) (λ t f table. table.named.form) _ ms d.flows is.flows in
     record {
       parts = All-append IsName (map (λ (n : NodeEntry). n.name) d.nodes) (map (λ (s : SwitchEntry). s.name) d.switches)
           (All-map IsName (λ (n : NodeEntry). n.name) d.nodes nodes) (All-map IsName (λ (s : SwitchEntry). s.name) d.switches switches);

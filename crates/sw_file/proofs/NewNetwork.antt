@@ -61,11 +61,11 @@ only_list keys key ts ms (Some d) there only =
     let known : is_known keys (key_text key) ≡ true = only (key_text key) (rw there refl) in
     subst (HasOnly keys) (sym (within key ts ms d there)) (only_put keys (key_text key) (array_of ts) ms known only)
 
-version_from : (ms : Members) → HasOnly document_keys ms → number_at Document VersionKey 1 2 ms ≡ Ok 2 → version_of ms ≡ Ok Two
+version_from : (ms : Members) → HasOnly document_keys ms → number_at Document VersionKey 1 3 ms ≡ Ok 2 → version_of ms ≡ Ok Two
 unfolding version_of
 version_from ms only read = rw (passes Document document_keys ms only, read) refl
 
-number_two : (ms : Members) → get_member (key_text VersionKey) ms ≡ Some (integer (pos 2)) → number_at Document VersionKey 1 2 ms ≡ Ok 2
+number_two : (ms : Members) → get_member (key_text VersionKey) ms ≡ Some (integer (pos 2)) → number_at Document VersionKey 1 3 ms ≡ Ok 2
 number_two ms there = rw there refl
 
 -- the migrated document is of version 2
@@ -89,7 +89,7 @@ links_same : (ms ns : Members) (d : Declaration) → get_member (key_text Link) 
 unfolding with_links
 links_same ms ns d same = rw same refl
 
-flows_same : (ms ns : Members) (d : Declaration) → get_member (key_text Flow) ns ≡ get_member (key_text Flow) ms → with_flows d ns ≡ with_flows d ms
+flows_same : (ms ns : Members) (d : Declaration) → get_member (key_text Flow) ns ≡ get_member (key_text Flow) ms → with_flows Two d ns ≡ with_flows Two d ms
 unfolding with_flows
 flows_same ms ns d same = rw same refl
 
@@ -124,15 +124,15 @@ links_two d e ms n alike well =
     let s = walk_alike (next_link One) (next_link Two) link_step 0 d e a.0 n alike a.2 in
     record { next = s.next; is = links_from ms a.0 e s.next a.1 s.is; alike = s.alike }
 
-flows_from : (ms : Members) (ts : List Members) (d n : Declaration) → entries Flow MAX_FLOWS over_flows ms ≡ Ok ts → walk next_flow d ts ≡ Ok n → with_flows d ms ≡ Ok n
+flows_from : (ms : Members) (ts : List Members) (d n : Declaration) → entries Flow MAX_FLOWS over_flows ms ≡ Ok ts → walk (next_flow Two) d ts ≡ Ok n → with_flows Two d ms ≡ Ok n
 unfolding with_flows over_flows
 flows_from ms ts d n listed walked = rw listed walked
 
-flows_two : (d e : Declaration) (ms : Members) (n : Declaration) → Alike d e → with_flows d ms ≡ Ok n → Steps (with_flows e ms) n
+flows_two : (d e : Declaration) (ms : Members) (n : Declaration) → Alike d e → with_flows One d ms ≡ Ok n → Steps (with_flows Two e ms) n
 unfolding with_flows over_flows
 flows_two d e ms n alike well =
-    let a = bind_ok (entries Flow MAX_FLOWS over_flows ms) (λ tables. walk next_flow d tables) n well in
-    let s = walk_alike next_flow next_flow flow_step 0 d e a.0 n alike a.2 in
+    let a = bind_ok (entries Flow MAX_FLOWS over_flows ms) (λ tables. walk (next_flow One) d tables) n well in
+    let s = walk_alike (next_flow One) (next_flow Two) flow_step 0 d e a.0 n alike a.2 in
     record { next = s.next; is = flows_from ms a.0 e s.next a.1 s.is; alike = s.alike }
 
 -- a list that is not too long
@@ -219,7 +219,7 @@ parts_from : (ms : Members) (a b c : Declaration) → with_nodes Two empty ms �
 unfolding with_parts
 parts_from ms a b c nodes switches links = rw (nodes, switches, links) refl
 
-network_from : (ms : Members) (c d : Declaration) → version_of ms ≡ Ok Two → with_parts Two empty ms ≡ Ok c → wired c ≡ Ok c → with_flows c ms ≡ Ok d → network_of ms ≡ Ok d
+network_from : (ms : Members) (c d : Declaration) → version_of ms ≡ Ok Two → with_parts Two empty ms ≡ Ok c → wired c ≡ Ok c → with_flows Two c ms ≡ Ok d → network_of ms ≡ Ok d
 unfolding network_of
 network_from ms c d version parts joined flows = rw (version, parts, joined) flows
 
@@ -231,14 +231,14 @@ old_parts ms c well =
     let b = bind_ok (with_switches One a.0 ms) (λ switches. with_links One switches ms) c a.2 in
     (a.0, b.0, a.1, b.1, b.2)
 
-pub old_network : (ms : Members) (d : Declaration) → network_of ms ≡ Ok d → version_of ms ≡ Ok One → (c : Declaration) × (with_parts One empty ms ≡ Ok c) × (fault_of (wiring_of c) ≡ None) × (with_flows c ms ≡ Ok d)
+pub old_network : (ms : Members) (d : Declaration) → network_of ms ≡ Ok d → version_of ms ≡ Ok One → (c : Declaration) × (with_parts One empty ms ≡ Ok c) × (fault_of (wiring_of c) ≡ None) × (with_flows One c ms ≡ Ok d)
 unfolding network_of
 old_network ms d well version =
-    let after : (with_parts One empty ms >>= λ parts. wired parts >>= λ network. with_flows network ms) ≡ Ok d = rw version at well in
-    let a = bind_ok (with_parts One empty ms) (λ parts. wired parts >>= λ network. with_flows network ms) d after in
-    let b = bind_ok (wired a.0) (λ network. with_flows network ms) d a.2 in
+    let after : (with_parts One empty ms >>= λ parts. wired parts >>= λ network. with_flows One network ms) ≡ Ok d = rw version at well in
+    let a = bind_ok (with_parts One empty ms) (λ parts. wired parts >>= λ network. with_flows One network ms) d after in
+    let b = bind_ok (wired a.0) (λ network. with_flows One network ms) d a.2 in
     let w = wired_parts a.0 b.0 (fault_of (wiring_of a.0)) refl b.1 in
-    (a.0, a.1, w.1, subst (λ x. with_flows x ms ≡ Ok d) (sym w.0) b.2)
+    (a.0, a.1, w.1, subst (λ x. with_flows One x ms ≡ Ok d) (sym w.0) b.2)
 
 pub version_keys : (ms : Members) → version_of ms ≡ Ok One → HasOnly document_keys ms
 unfolding version_of

@@ -1,81 +1,21 @@
 -- What was read as of version 1 and is unchanged reads the same as of version 2.
-use Rattle.std.proofs.Common.{◌≡◌, ℕ, suc, Bool, true, List, [], ◌∷◌, ◌++◌, map, length, Option, Some, None, Result, Ok, refl, ap, inl, inr, subst}
-use Rattle.std.specs.List.{AllZip, list_any}
-use Rattle.std.proofs.lemmas.Bool.{cases_Bool, or_right}
-use Rattle.std.specs.Str.{bytes_eq}
+use Rattle.std.proofs.Common.{◌≡◌, ℕ, suc, List, [], ◌∷◌, ◌++◌, map, length, Result, Ok, refl, ap, subst}
+use Rattle.std.specs.List.{AllZip}
 use Rattle.toml.specs.Data.{Members}
-use Rattle.sw_rmap.specs.declared.config.TargetConfig.{TargetConfig}
 use Rattle.sw_route.specs.Looks.{look_of}
-use Rattle.sw_config.specs.Entries.{NodeEntry, SwitchEntry, LinkEntry, Declaration, part_names, flow_names}
-use Rattle.sw_text.specs.declared.keys.Key.{Key}
-use Rattle.sw_text.specs.declared.keys.Key.TheVariants.{Target, Slots, BufferA, BufferB}
-use Rattle.sw_text.specs.declared.keys.Section.{Section}
-use Rattle.sw_text.specs.declared.keys.Section.TheVariants as section
+use Rattle.sw_config.specs.Entries.{SwitchEntry, Declaration, part_names, flow_names}
 use Rattle.sw_text.specs.declared.keys.Version.TheVariants.{One, Two}
 use Rattle.sw_text.specs.declared.fault.TextFault.{TextFault}
-use Rattle.sw_text.specs.Keys.{key_text}
 use Rattle.sw_text.specs.Gives.{walk_from, each}
-use Rattle.sw_text.specs.Table.{is_known, only_known, table_or_none}
-use Rattle.sw_file.specs.Keys.{node_keys, target_keys, link_keys}
-use Rattle.sw_file.specs.Names.{new_name}
-use Rattle.sw_file.specs.Nodes.{config_of, target_or_none, node_of, next_node}
+use Rattle.sw_file.specs.Nodes.{node_of, next_node}
 use Rattle.sw_file.specs.Switches.{switch_of, next_switch}
 use Rattle.sw_file.specs.Links.{link_of, next_link}
 use Rattle.sw_file.specs.FlowTables.{flow_of, next_flow}
 use Rattle.sw_file.specs.Tree.{merged_switch}
-use Rattle.sw_file.proofs.Known.{passed}
-use Rattle.sw_file.proofs.Tables.{passes}
-use Rattle.sw_file.proofs.PutMembers.{only_more}
 use Rattle.sw_file.proofs.RowEntries.{ok_same}
 use Rattle.sw_file.proofs.NewSwitches.{merged_read}
+use Rattle.sw_file.proofs.Raised.{two_after_one, node_later, link_later, flow_later}
 use Rattle.sw_text.proofs.Results.{bind_ok}
-
-any_more : (f : Key → Bool) (xs ys : List Key) → list_any f xs ≡ true → list_any f (xs ++ ys) ≡ true
-any_more f [] ys known = absurd cc
-any_more f (x ∷ xs) ys known =
-    elim (cases_Bool (f x)) [
-      | inl here ↦ rw here refl
-      | inr off ↦ or_right (f x) (list_any f (xs ++ ys)) (any_more f xs ys (rw off at known))
-    ]
-
-more_keys : (keys more : List Key) (name : List ℕ) → is_known keys name ≡ true → is_known (keys ++ more) name ≡ true
-more_keys keys more name known = any_more (λ k. bytes_eq (key_text k) name) keys more known
-
-passes_more : (s : Section) (keys more : List Key) (t : Members) (u : Unit {0}) → only_known s keys t ≡ Ok u → only_known s (keys ++ more) t ≡ Ok tt
-passes_more s keys more t u fine = passes s (keys ++ more) t (only_more keys (keys ++ more) t (more_keys keys more) (passed s keys t u fine))
-
-config_two : (i : ℕ) (t : Members) (c : TargetConfig) → config_of One i t ≡ Ok c → config_of Two i t ≡ Ok c
-unfolding config_of
-config_two i t c well =
-    let a = bind_ok (only_known (section.Target i) (target_keys One) t) _ c well in
-    rw (passes_more (section.Target i) (target_keys One) (Slots ∷ []) t a.0 a.1) a.2
-
-target_at : (i : ℕ) (t : Members) (o : Option Members) (c : Option TargetConfig) → table_or_none (section.Node i) Target t ≡ Ok o → target_or_none One i t ≡ Ok c → target_or_none Two i t ≡ Ok c
-unfolding target_or_none
-target_at i t None c there well = rw there (rw there at well)
-target_at i t (Some u) c there well =
-    let a = bind_ok (config_of One i u) (λ x. Ok (Some x)) c (rw there at well) in
-    rw (there, config_two i u a.0 a.1) a.2
-
-target_two : (i : ℕ) (t : Members) (c : Option TargetConfig) → target_or_none One i t ≡ Ok c → target_or_none Two i t ≡ Ok c
-unfolding target_or_none
-target_two i t c well =
-    let a = bind_ok (table_or_none (section.Node i) Target t) _ c well in
-    target_at i t a.0 c a.1 well
-
-node_two : (i : ℕ) (taken : List (List ℕ)) (t : Members) (n : NodeEntry) → node_of One i taken t ≡ Ok n → node_of Two i taken t ≡ Ok n
-unfolding node_of
-node_two i taken t n well =
-    let a = bind_ok (only_known (section.Node i) node_keys t) _ n well in
-    let b = bind_ok (new_name (section.Node i) taken t) _ n a.2 in
-    let c = bind_ok (target_or_none One i t) _ n b.2 in
-    rw (a.1, b.1, target_two i t c.0 c.1) c.2
-
-link_two : (i nodes : ℕ) (names : List (List ℕ)) (t : Members) (l : LinkEntry) → link_of One i nodes names t ≡ Ok l → link_of Two i nodes names t ≡ Ok l
-unfolding link_of
-link_two i nodes names t l well =
-    let a = bind_ok (only_known (section.Link i) (link_keys One) t) _ l well in
-    rw (passes_more (section.Link i) (link_keys One) (BufferA ∷ BufferB ∷ []) t a.0 a.1) a.2
 
 -- the same name, the same policy, and each byte names the same
 pub record IsSameSwitch (s t : SwitchEntry) : Type 0 where
@@ -115,7 +55,7 @@ pub node_step : (i : ℕ) (d e : Declaration) (t : Members) (n : Declaration) �
 unfolding next_node
 node_step i d e t n alike well =
     let a = bind_ok (node_of One i (part_names d) t) _ n well in
-    let read : node_of Two i (part_names e) t ≡ Ok a.0 = rw (same_parts d e alike) (node_two i (part_names d) t a.0 a.1) in
+    let read : node_of Two i (part_names e) t ≡ Ok a.0 = rw (same_parts d e alike) (node_later One Two two_after_one i (part_names d) t a.0 a.1) in
     record {
       next = record e { nodes = e.nodes ++ a.0 ∷ [] };
       is = rw read refl;
@@ -127,7 +67,7 @@ pub link_step : (i : ℕ) (d e : Declaration) (t : Members) (n : Declaration) �
 unfolding next_link
 link_step i d e t n alike well =
     let a = bind_ok (link_of One i (length d.nodes) (part_names d) t) _ n well in
-    let read : link_of Two i (length e.nodes) (part_names e) t ≡ Ok a.0 = rw (same_parts d e alike, alike.nodes) (link_two i (length d.nodes) (part_names d) t a.0 a.1) in
+    let read : link_of Two i (length e.nodes) (part_names e) t ≡ Ok a.0 = rw (same_parts d e alike, alike.nodes) (link_later One Two two_after_one i (length d.nodes) (part_names d) t a.0 a.1) in
     record {
       next = record e { links = e.links ++ a.0 ∷ [] };
       is = rw read refl;
@@ -135,11 +75,11 @@ link_step i d e t n alike well =
           (record { nodes = alike.nodes; links = ap (λ l. l ++ a.0 ∷ []) alike.links; flows = alike.flows; switches = alike.switches });
     }
 
-pub flow_step : (i : ℕ) (d e : Declaration) (t : Members) (n : Declaration) → Alike d e → next_flow i d t ≡ Ok n → Steps (next_flow i e t) n
+pub flow_step : (i : ℕ) (d e : Declaration) (t : Members) (n : Declaration) → Alike d e → next_flow One i d t ≡ Ok n → Steps (next_flow Two i e t) n
 unfolding next_flow
 flow_step i d e t n alike well =
-    let a = bind_ok (flow_of i d.nodes (flow_names d.flows) t) _ n well in
-    let read : flow_of i e.nodes (flow_names e.flows) t ≡ Ok a.0 = rw (alike.nodes, alike.flows) a.1 in
+    let a = bind_ok (flow_of One i d.nodes (flow_names d.flows) t) _ n well in
+    let read : flow_of Two i e.nodes (flow_names e.flows) t ≡ Ok a.0 = rw (alike.nodes, alike.flows) (flow_later One Two two_after_one i d.nodes (flow_names d.flows) t a.0 a.1) in
     record {
       next = record e { flows = e.flows ++ a.0 ∷ [] };
       is = rw read refl;

@@ -78,10 +78,10 @@ pub node_plain : (i : ℕ) (taken : List (List ℕ)) (t : Members) (n : NodeEntr
 unfolding node_of
 node_plain i taken t n well sorted =
     let s = section.Node i in
-    let a = bind_ok (only_known s node_keys t) _ n well in
+    let a = bind_ok (only_known s (node_keys One) t) _ n well in
     let b = bind_ok (new_name s taken t) _ n a.2 in
     let c = bind_ok (target_or_none One i t) _ n b.2 in
-    known_plain 1 node_keys t (passed s node_keys t a.0 a.1) sorted (name_plain 1 s taken t b.0 b.1, (target_plain i t c.0 c.1 sorted, tt))
+    known_plain 1 (node_keys One) t (passed s (node_keys One) t a.0 a.1) sorted (name_plain 1 s taken t b.0 b.1, (target_plain i t c.0 c.1 sorted, tt))
 
 ports_plain : (s : Section) (t : Members) (x : ℕ) → ports_at s t ≡ Ok x → Holds 1 t (key_text Ports)
 unfolding ports_at
@@ -165,22 +165,22 @@ addressed_plain i t x well =
     let b = bind_ok (number_or (section.Flow i) Left 0 (length a.0) 0 t) _ x a.2 in
     (address_plain i t a.0 a.1, number_or_plain 2 (section.Flow i) Left 0 (length a.0) 0 t b.0 b.1)
 
-reply_of_plain : (i : ℕ) (t : Members) (x : ReplyEntry) → reply_of i t ≡ Ok x → members_are_sorted t ≡ true → PlainMembers 1 t
+reply_of_plain : (i : ℕ) (t : Members) (x : ReplyEntry) → reply_of One i t ≡ Ok x → members_are_sorted t ≡ true → PlainMembers 1 t
 unfolding reply_of
 reply_of_plain i t x well sorted =
     let s = section.Reply i in
-    let a = bind_ok (only_known s reply_keys t) _ x well in
+    let a = bind_ok (only_known s (reply_keys One) t) _ x well in
     let b = bind_ok (numbers_or_none s Path 255 t) _ x a.2 in
     let c = bind_ok (number_at s Initiator 0 255 t) _ x b.2 in
-    known_plain 1 reply_keys t (passed s reply_keys t a.0 a.1) sorted (numbers_or_plain 0 s Path 255 t b.0 b.1, (number_plain 1 s Initiator 0 255 t c.0 c.1, tt))
+    known_plain 1 (reply_keys One) t (passed s (reply_keys One) t a.0 a.1) sorted (numbers_or_plain 0 s Path 255 t b.0 b.1, (number_plain 1 s Initiator 0 255 t c.0 c.1, tt))
 
-reply_inner : (i : ℕ) (t u : Members) (x : Option ReplyEntry) → table_or_none (section.Flow i) Reply t ≡ Ok (Some u) → reply_or_none i t ≡ Ok x → (y : ReplyEntry) × (reply_of i u ≡ Ok y)
+reply_inner : (i : ℕ) (t u : Members) (x : Option ReplyEntry) → table_or_none (section.Flow i) Reply t ≡ Ok (Some u) → reply_or_none One i t ≡ Ok x → (y : ReplyEntry) × (reply_of One i u ≡ Ok y)
 unfolding reply_or_none
 reply_inner i t u x there well =
-    let a = bind_ok (reply_of i u) (λ y. Ok (Some y)) x (rw there at well) in
+    let a = bind_ok (reply_of One i u) (λ y. Ok (Some y)) x (rw there at well) in
     (a.0, a.1)
 
-reply_plain : (i : ℕ) (t : Members) (x : Option ReplyEntry) → reply_or_none i t ≡ Ok x → members_are_sorted t ≡ true → Holds 2 t (key_text Reply)
+reply_plain : (i : ℕ) (t : Members) (x : Option ReplyEntry) → reply_or_none One i t ≡ Ok x → members_are_sorted t ≡ true → Holds 2 t (key_text Reply)
 unfolding reply_or_none
 reply_plain i t x well sorted =
     let a = bind_ok (table_or_none (section.Flow i) Reply t) _ x well in
@@ -188,13 +188,13 @@ reply_plain i t x well sorted =
     let y = reply_inner i t u x (a.1 ∙ ap Ok is) well in
     reply_of_plain i u y.0 y.1 order)
 
-replies_plain : (i : ℕ) (nodes : List NodeEntry) (to : ℕ) (t : Members) (x : Option ReplyEntry) → replies_at i nodes to t ≡ Ok x → members_are_sorted t ≡ true → Holds 2 t (key_text Reply)
+replies_plain : (i : ℕ) (nodes : List NodeEntry) (to : ℕ) (t : Members) (x : Option ReplyEntry) → replies_at One i nodes to t ≡ Ok x → members_are_sorted t ≡ true → Holds 2 t (key_text Reply)
 unfolding replies_at
 replies_plain i nodes to t x well sorted =
-    let a = bind_ok (reply_or_none i t) _ x well in
+    let a = bind_ok (reply_or_none One i t) _ x well in
     reply_plain i t a.0 a.1 sorted
 
-pub flow_plain : (i : ℕ) (nodes : List NodeEntry) (taken : List (List ℕ)) (t : Members) (x : FlowEntry) → flow_of i nodes taken t ≡ Ok x → members_are_sorted t ≡ true → PlainMembers 2 t
+pub flow_plain : (i : ℕ) (nodes : List NodeEntry) (taken : List (List ℕ)) (t : Members) (x : FlowEntry) → flow_of One i nodes taken t ≡ Ok x → members_are_sorted t ≡ true → PlainMembers 2 t
 unfolding flow_of
 flow_plain i nodes taken t x well sorted =
     let s = section.Flow i in
@@ -203,7 +203,7 @@ flow_plain i nodes taken t x well sorted =
     let c = bind_ok (place_at s From (node_names nodes) t) _ x b.2 in
     let d = bind_ok (place_at s To (node_names nodes) t) _ x c.2 in
     let e = bind_ok (addressed i t) _ x d.2 in
-    let f = bind_ok (replies_at i nodes d.0 t) (λ reply. Ok (record { name = b.0; from = c.0; to = d.0; address = e.0.0; left = e.0.1; reply = reply })) x e.2 in
+    let f = bind_ok (replies_at One i nodes d.0 t) (λ reply. Ok (record { name = b.0; from = c.0; to = d.0; address = e.0.0; left = e.0.1; reply = reply })) x e.2 in
     let way = addressed_plain i t e.0 e.1 in
     known_plain 2 flow_keys t (passed s flow_keys t a.0 a.1) sorted
     (name_plain 2 s taken t b.0 b.1, (place_plain 2 s From (node_names nodes) t c.0 c.1, (place_plain 2 s To (node_names nodes) t d.0 d.1, (way.0, (way.1, (replies_plain i nodes d.0 t f.0 f.1 sorted, tt))))))

@@ -65,10 +65,10 @@ link_read i d n t well sorted =
     let a = bind_ok (link_of One i (length d.nodes) (part_names d) t) _ n well in
     link_plain i (length d.nodes) (part_names d) t a.0 a.1 sorted
 
-flow_read : (i : ℕ) (d n : Declaration) (t : Members) → next_flow i d t ≡ Ok n → InOrder t → PlainMembers 2 t
+flow_read : (i : ℕ) (d n : Declaration) (t : Members) → next_flow One i d t ≡ Ok n → InOrder t → PlainMembers 2 t
 unfolding next_flow
 flow_read i d n t well sorted =
-    let a = bind_ok (flow_of i d.nodes (flow_names d.flows) t) _ n well in
+    let a = bind_ok (flow_of One i d.nodes (flow_names d.flows) t) _ n well in
     flow_plain i d.nodes (flow_names d.flows) t a.0 a.1 sorted
 
 holds_more : (n m : ℕ) (ms : Members) (name : List ℕ) → n ≤ m → Holds n ms name → Holds m ms name
@@ -93,16 +93,16 @@ links_hold : (ms : Members) (d e : Declaration) → with_links One d ms ≡ Ok e
 unfolding with_links
 links_hold ms d e well sorted = list_holds (next_link One) 0 link_read Link MAX_LINKS (fault.Topology (TooMany Links)) ms d e well sorted
 
-flows_hold : (ms : Members) (d e : Declaration) → with_flows d ms ≡ Ok e → InOrder ms → Holds 4 ms (key_text Flow)
+flows_hold : (ms : Members) (d e : Declaration) → with_flows One d ms ≡ Ok e → InOrder ms → Holds 4 ms (key_text Flow)
 unfolding with_flows
-flows_hold ms d e well sorted = list_holds next_flow 2 flow_read Flow MAX_FLOWS (fault.Key OutOfRange Document Flow) ms d e well sorted
+flows_hold ms d e well sorted = list_holds (next_flow One) 2 flow_read Flow MAX_FLOWS (fault.Key OutOfRange Document Flow) ms d e well sorted
 
 version_holds : (n : ℕ) (ms : Members) (v : Version) → version_of ms ≡ Ok v → Holds n ms (key_text VersionKey)
 unfolding version_of
 version_holds n ms v well =
     let a = bind_ok (only_known Document document_keys ms) _ v well in
-    let b = bind_ok (number_at Document VersionKey 1 2 ms) _ v a.2 in
-    number_plain n Document VersionKey 1 2 ms b.0 b.1
+    let b = bind_ok (number_at Document VersionKey 1 3 ms) _ v a.2 in
+    number_plain n Document VersionKey 1 3 ms b.0 b.1
 
 -- the tree of a network of version 1 is plain
 pub tree_plain : (ms : Members) (d : Declaration) → network_of ms ≡ Ok d → version_of ms ≡ Ok One → InOrder ms → PlainMembers 5 ms

@@ -147,7 +147,7 @@ wider true b c l known = refl
 wider false b c true known = refl
 wider false b c false known = known
 
-more_keys : (name : List ℕ) → is_known (route_keys One) name ≡ true → is_known (route_keys Two) name ≡ true
+pub more_keys : (name : List ℕ) → is_known (route_keys One) name ≡ true → is_known (route_keys Two) name ≡ true
 more_keys name known = wider (bytes_eq (key_text Address) name) (bytes_eq (key_text Ports) name) (bytes_eq (key_text Delete) name) (bytes_eq (key_text Last) name) known
 
 -- what route_of reads, in its order

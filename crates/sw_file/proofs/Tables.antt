@@ -11,7 +11,7 @@ use Rattle.toml.specs.Data.{Members}
 use Rattle.sw_rmap.specs.declared.config.TargetConfig.{TargetConfig}
 use Rattle.sw_config.specs.Entries.{NodeEntry}
 use Rattle.sw_text.specs.declared.keys.Key.{Key}
-use Rattle.sw_text.specs.declared.keys.Key.TheVariants.{Name, Target, Logical, TargetKey, Start, Size, Slots}
+use Rattle.sw_text.specs.declared.keys.Key.TheVariants.{Name, Target, Logical, TargetKey, Start, Size, Slots, Outstanding}
 use Rattle.sw_text.specs.declared.keys.Section.{Section}
 use Rattle.sw_text.specs.declared.keys.Section.TheVariants as section
 use Rattle.sw_text.specs.declared.keys.Version.{Version}
@@ -19,16 +19,16 @@ use Rattle.sw_text.specs.declared.fault.KeyFault.TheVariants.{OutOfRange, Unknow
 use Rattle.sw_text.specs.declared.fault.TextFault.TheVariants as fault
 use Rattle.sw_text.specs.Gives.{ok_or}
 use Rattle.sw_text.specs.Names.{is_name, name_at}
-use Rattle.sw_text.specs.Table.{only_known, text_at, number_at, number_or, absent}
+use Rattle.sw_text.specs.Table.{only_known, text_at, number_at, number_or, number_or_none, absent}
 use Rattle.sw_text.specs.KeyLaws.{HasOnly}
 use Rattle.sw_text.proofs.Unknown.{refuses_least_unknown}
-use Rattle.sw_file.specs.Keys.{node_keys, target_keys}
+use Rattle.sw_file.specs.Keys.{node_keys, target_keys, most_slots}
 use Rattle.sw_file.specs.Names.{new_name, place_at}
 use Rattle.sw_file.specs.Nodes.{size_at, config_of, target_or_none, node_of}
 use Rattle.sw_file.specs.Values.{IsNumber, Has}
 use Rattle.sw_file.specs.Tables.{IsNamed, Refers, IsTargetTable, IsNodeTable}
 use Rattle.sw_file.proofs.Known.{well, passed}
-use Rattle.sw_file.proofs.Values.{there, has_text, text_is, has_number, has_number_it, has_number_or, number_or_is, has_if_any, if_any_is}
+use Rattle.sw_file.proofs.Values.{there, has_text, text_is, has_number, has_number_it, has_number_or, number_or_is, has_number_or_none, number_or_none_is, has_if_any, if_any_is}
 use Rattle.sw_text.proofs.Results.{bind_ok, test_passed}
 
 -- a table that has its keys alone passes
@@ -104,7 +104,7 @@ is_target version i ms c h =
     well (number_or (section.Target i) TargetKey 0 255 0 ms) c (λ f is. rw (keys, at_logical, is) at h) (λ key at_key.
     well (number_or (section.Target i) Start 0 1099511627775 0 ms) c (λ f is. rw (keys, at_logical, at_key, is) at h) (λ start at_start.
     well (size_at i start ms) c (λ f is. rw (keys, at_logical, at_key, at_start, is) at h) (λ size at_size.
-    well (number_or (section.Target i) Slots 1 8 1 ms) c (λ f is. rw (keys, at_logical, at_key, at_start, at_size, is) at h) (λ slots at_slots.
+    well (number_or (section.Target i) Slots 1 (most_slots version) 1 ms) c (λ f is. rw (keys, at_logical, at_key, at_start, at_size, is) at h) (λ slots at_slots.
     let made : Ok (record { logical = logical; key = key; start = start; size = size; slots = slots }) ≡ Ok c = rw (keys, at_logical, at_key, at_start, at_size, at_slots) at h in
     let same : record { logical = logical; key = key; start = start; size = size; slots = slots } ≡ c = cc in
     let window = has_size i start ms size at_size in
@@ -115,7 +115,7 @@ is_target version i ms c h =
       start = has_number_or (section.Target i) Start ms 0 1099511627775 0 start at_start;
       size = window.0;
       window = window.1;
-      slots = has_number_or (section.Target i) Slots ms 1 8 1 slots at_slots;
+      slots = has_number_or (section.Target i) Slots ms 1 (most_slots version) 1 slots at_slots;
     })))))))
 
 target_is : (version : Version) (i : ℕ) (ms : Members) (c : TargetConfig) → IsTargetTable version ms c → config_of version i ms ≡ Ok c
@@ -127,33 +127,36 @@ target_is version i ms c is =
       number_or_is (section.Target i) TargetKey ms 0 255 0 c.key is.key,
       number_or_is (section.Target i) Start ms 0 1099511627775 0 c.start is.start,
       size_is i c.start ms c.size is.size is.window,
-      number_or_is (section.Target i) Slots ms 1 8 1 c.slots is.slots,
+      number_or_is (section.Target i) Slots ms 1 (most_slots version) 1 c.slots is.slots,
     ) refl
 
 -- a node
 pub is_node : (version : Version) (i : ℕ) (taken : List (List ℕ)) (ms : Members) (e : NodeEntry) → node_of version i taken ms ≡ Ok e → IsNodeTable version ms e × All (λ k. k ≢ e.name) taken
 unfolding node_of target_or_none
 is_node version i taken ms e h =
-    well (only_known (section.Node i) node_keys ms) e (λ f is. rw is at h) (λ u keys.
+    well (only_known (section.Node i) (node_keys version) ms) e (λ f is. rw is at h) (λ u keys.
     well (new_name (section.Node i) taken ms) e (λ f is. rw (keys, is) at h) (λ name at_name.
     well (target_or_none version i ms) e (λ f is. rw (keys, at_name, is) at h) (λ target at_target.
-    let made : Ok (record { name = name; target = target }) ≡ Ok e = rw (keys, at_name, at_target) at h in
-    let same : record { name = name; target = target } ≡ e = cc in
+    well (number_or_none (section.Node i) Outstanding 1 65535 ms) e (λ f is. rw (keys, at_name, at_target, is) at h) (λ outstanding at_outstanding.
+    let made : Ok (record { name = name; target = target; outstanding = outstanding }) ≡ Ok e = rw (keys, at_name, at_target, at_outstanding) at h in
+    let same : record { name = name; target = target; outstanding = outstanding } ≡ e = cc in
     let named = has_new_name (section.Node i) taken ms name at_name in
     subst (λ (x : NodeEntry). IsNodeTable version ms x × All (λ k. k ≢ x.name) taken) same (
       record {
-        keys = passed (section.Node i) node_keys ms u keys;
+        keys = passed (section.Node i) (node_keys version) ms u keys;
         named = named.0;
         target = has_if_any (section.Node i) Target ms (IsTargetTable version) (config_of version i) (λ t c. is_target version i t c) target at_target;
+        outstanding = has_number_or_none (section.Node i) Outstanding ms 1 65535 outstanding at_outstanding;
       },
       named.1,
-    ))))
+    )))))
 
 pub node_is : (version : Version) (i : ℕ) (taken : List (List ℕ)) (ms : Members) (e : NodeEntry) → IsNodeTable version ms e → All (λ k. k ≢ e.name) taken → node_of version i taken ms ≡ Ok e
 unfolding node_of target_or_none
 node_is version i taken ms e is new =
     rw (
-      passes (section.Node i) node_keys ms is.keys,
+      passes (section.Node i) (node_keys version) ms is.keys,
       new_name_is (section.Node i) taken ms e.name is.named new,
       if_any_is (section.Node i) Target ms (IsTargetTable version) (config_of version i) (λ t c. target_is version i t c) e.target is.target,
+      number_or_none_is (section.Node i) Outstanding ms 1 65535 e.outstanding is.outstanding,
     ) refl

@@ -1,5 +1,5 @@
 -- What is a network by its words is valid, and its names are as names have to be.
-use Rattle.std.proofs.Common.{◌≡◌, ℕ, ◌+◌, ◌*◌, ◌<◌, ◌≤◌, List, [], ◌∷◌, length, Option, Some, None, All, refl, sym, subst, arith, inl, inr}
+use Rattle.std.proofs.Common.{◌≡◌, ℕ, ◌+◌, ◌*◌, ◌<◌, ◌≤◌, List, [], ◌∷◌, length, Option, Some, None, All, Fits, w8, refl, sym, subst, arith, inl, inr}
 use Rattle.std.specs.Prelude.{IfSome}
 use Rattle.std.specs.List.{AllZip}
 use Rattle.std.specs.Str.{bytes_eq}
@@ -20,11 +20,15 @@ use Rattle.sw_config.proofs.Steps.{length-link_ends}
 use Rattle.sw_text.specs.declared.keys.Key.{Key}
 use Rattle.sw_text.specs.declared.keys.Key.TheVariants.{Target, A, APort, B, BPort}
 use Rattle.sw_text.specs.declared.keys.Version.{Version}
+use Rattle.sw_text.specs.declared.keys.Version.TheVariants.{One, Two, Three}
 use Rattle.sw_text.specs.Table.{item_list}
 use Rattle.sw_file.specs.Values.{IsNumber, IsTableOf, HasOr, HasIfAny, HasTables}
 use Rattle.sw_file.specs.Tables.{Refers, IsTargetTable, IsNodeTable, IsRouteTable, IsSwitchTable, HasEnd, IsLinkTable, IsFlowTable, IsNetworkTable}
+use Rattle.sw_file.specs.Keys.{most_slots}
 use Rattle.sw_file.specs.FlowTables.{node_names}
 use Rattle.sw_file.specs.Laws.{ReadNetworksAreValid}
+use Rattle.sw_file.proofs.Whole.{fits_byte}
+use Rattle.sw_file.proofs.FlowTables.{limited}
 use Rattle.sw_file.proofs.Documents.{networks_are_read_exactly}
 
 -- a number, or a default that is in the range too
@@ -44,9 +48,27 @@ module _ {A : Type 0} (Is : Members → A → Type 0) (P : A → Type 0) (so : (
   of_each key ms es (inl h) = of_items (item_list h.is.items) es h.is.each
   of_each key ms es (inr out) = subst (All P) (sym out.1) (All-nil P)
 
+-- how many slots a target may have
+some_slots : (version : Version) → 1 ≤ most_slots version
+some_slots One = omega arith
+some_slots Two = omega arith
+some_slots Three = omega arith
+
+few_slots : (version : Version) → most_slots version ≤ 64
+few_slots One = omega arith
+few_slots Two = omega arith
+few_slots Three = omega arith
+
+-- so many slots fit a byte
+pub slots_within : (version : Version) (most slots : ℕ) → most ≡ most_slots version → slots ≤ most → slots ≤ 64
+slots_within version most slots is few = omega (arith, is, few, few_slots version)
+
+pub fits_slots : (version : Version) (most slots : ℕ) → most ≡ most_slots version → slots ≤ most → Fits w8 slots
+fits_slots version most slots is few = fits_byte slots 64 (slots_within version most slots is few) (omega arith)
+
 target_valid : (version : Version) (ms : Members) (c : TargetConfig) → IsTargetTable version ms c → IsTargetConfig c
 target_valid version ms c is =
-    let slots = within 1 8 1 _ ms c.slots (omega arith) (omega arith) is.slots in
+    let slots = within 1 (most_slots version) 1 _ ms c.slots (omega arith) (some_slots version) is.slots in
     record {
       low_logical = is.logical.is.least;
       high_logical = is.logical.is.most;
@@ -54,7 +76,7 @@ target_valid version ms c is =
       high_size = is.size.is.most;
       window = is.window;
       low_slots = slots.0;
-      high_slots = slots.1;
+      high_slots = omega (arith, slots.1, few_slots version);
     }
 
 if_target : (version : Version) (ms : Members) (o : Option TargetConfig) → HasIfAny (IsTableOf (IsTargetTable version)) Target ms o → IfSome o IsTargetConfig
@@ -98,8 +120,8 @@ all_inside nodes switches (l ∷ ls) all =
 size_of_names : (d : Declaration) → length (part_names d) ≡ length d.nodes + length d.switches
 size_of_names d = rw (length-append, length-map, length-map) refl
 
-flow_valid : (nodes : List NodeEntry) (ms : Members) (f : FlowEntry) → IsFlowTable nodes ms f → IsFlow nodes f
-flow_valid nodes ms f is =
+flow_valid : (version : Version) (nodes : List NodeEntry) (ms : Members) (f : FlowEntry) → IsFlowTable version nodes ms f → IsFlow nodes f
+flow_valid version nodes ms f is =
     let size : length (node_names nodes) ≡ length nodes = length-map nodes (λ (n : NodeEntry). n.name) in
     let left = within 0 (length f.address) 0 _ ms f.left (omega arith) (omega arith) is.left in
     record {
@@ -124,10 +146,10 @@ network_valid version ms d is =
         };
         faultless = is.joined;
       };
-      nodes = of_each (IsNodeTable version) IsNode (λ t n node. if_target version t n.target node.target) _ ms d.nodes is.nodes;
+      nodes = of_each (IsNodeTable version) IsNode (λ t n node. record { target = if_target version t n.target node.target; outstanding = limited t n.outstanding node.outstanding }) _ ms d.nodes is.nodes;
       switches = of_each (IsSwitchTable version) IsSwitch (λ t s. switch_valid version t s) _ ms d.switches is.switches;
       links = of_each IsItsLink IsLink (λ t l. link_valid version (length d.nodes) (part_names d) t l) _ ms d.links is.links;
-      flows = of_each (IsFlowTable d.nodes) (IsFlow d.nodes) (λ t f. flow_valid d.nodes t f) _ ms d.flows is.flows;
+      flows = of_each (IsFlowTable version d.nodes) (IsFlow d.nodes) (λ t f. flow_valid version d.nodes t f) _ ms d.flows is.flows;
       few_flows = is.few_flows;
       parts_named = is.parts_named;
       flows_named = is.flows_named;

@@ -12,7 +12,7 @@ use Rattle.sw_text.specs.declared.fault.TextFault.{TextFault}
 use Rattle.sw_text.specs.declared.fault.TextFault.TheVariants as fault
 use Rattle.sw_text.specs.Keys.{key_text}
 use Rattle.sw_text.specs.Gives.{◌>>=◌, ok_or, each}
-use Rattle.sw_text.specs.Table.{required, text_value, in_range, number_value, item_list, items_value, table_value, numbers_value, text_at, number_at, number_or, numbers_at, numbers_or_none, tables_or_none, table_or_none, flag_or_false}
+use Rattle.sw_text.specs.Table.{required, text_value, in_range, number_value, item_list, items_value, table_value, numbers_value, text_at, number_at, number_or, number_or_none, numbers_at, numbers_or_none, tables_or_none, table_or_none, flag_or_false}
 use Rattle.sw_file.specs.Values.{IsText, IsFlag, IsNumber, IsListOf, IsTableOf, Lacks, Has, HasOr, HasIfAny, HasTables}
 use Rattle.sw_text.proofs.Results.{bind_ok}
 
@@ -119,6 +119,26 @@ module _ (s : Section) (key : Key) (ms : Members) where
   pub number_or_is : (low high default n : ℕ) → HasOr (IsNumber low high) default key ms n → number_or s key low high default ms ≡ Ok n
   number_or_is low high default n is =
       has_or_it (IsNumber low high) default key ms n (number_or s key low high default ms) (λ e. rw e refl) (λ d e g. rw e (number_is s key low high d n g)) is
+
+  -- a number, if anything stands there
+  number_there : (low high : ℕ) (o : Option ℕ) (d : Data) → get_member (key_text key) ms ≡ Some d → number_or_none s key low high ms ≡ Ok o → HasIfAny (IsNumber low high) key ms o
+  number_there low high o d e h =
+      let n = bind_ok (number_value s key low high d) (λ n. Ok (Some n)) o (rw e at h) in
+      let given : Ok (Some n.0) ≡ Ok o = n.2 in
+      let same : Some n.0 ≡ o = cc in
+      subst (HasIfAny (IsNumber low high) key ms) same (record { value = d; stands = e; is = is_number s key low high d n.0 n.1 })
+
+  number_if_any : (low high : ℕ) (o : Option ℕ) → number_or_none s key low high ms ≡ Ok o → (v : Option Data) → get_member (key_text key) ms ≡ v → HasIfAny (IsNumber low high) key ms o
+  number_if_any low high None h None e = e
+  number_if_any low high (Some n) h None e = let bad : Ok None ≡ Ok (Some n) = rw e at h in absurd cc
+  number_if_any low high o h (Some d) e = number_there low high o d e h
+
+  pub has_number_or_none : (low high : ℕ) (o : Option ℕ) → number_or_none s key low high ms ≡ Ok o → HasIfAny (IsNumber low high) key ms o
+  has_number_or_none low high o h = number_if_any low high o h (get_member (key_text key) ms) refl
+
+  pub number_or_none_is : (low high : ℕ) (o : Option ℕ) → HasIfAny (IsNumber low high) key ms o → number_or_none s key low high ms ≡ Ok o
+  number_or_none_is low high None h = rw h refl
+  number_or_none_is low high (Some n) h = rw (h.stands, number_is s key low high h.value n h.is) refl
 
   pub has_numbers : (high : ℕ) (ns : List ℕ) → numbers_at s key high ms ≡ Ok ns → Has (IsListOf (IsNumber 0 high)) key ms ns
   has_numbers high ns h =

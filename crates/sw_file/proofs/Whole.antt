@@ -11,15 +11,15 @@ use Rattle.sw_arb.specs.declared.arbitration.Arbitration.{Arbitration}
 use Rattle.sw_rmap.specs.declared.config.TargetConfig.{TargetConfig}
 use Rattle.sw_config.specs.Entries.{Declaration, NodeEntry, SwitchEntry, part_names}
 use Rattle.sw_text.specs.declared.keys.Key.{Key}
-use Rattle.sw_text.specs.declared.keys.Key.TheVariants.{Target, Logical, TargetKey, Start, Size, Slots, Address, Last, Delete, A, APort, B, BPort, Buffer, BufferA, BufferB}
+use Rattle.sw_text.specs.declared.keys.Key.TheVariants.{Target, Logical, TargetKey, Start, Size, Slots, Outstanding, Address, Last, Delete, A, APort, B, BPort, Buffer, BufferA, BufferB}
 use Rattle.sw_text.specs.declared.keys.Section.{Section}
 use Rattle.sw_text.specs.declared.keys.Section.TheVariants as section
 use Rattle.sw_text.specs.declared.keys.Version.{Version}
 use Rattle.sw_text.specs.declared.fault.KeyFault.TheVariants.{OutOfRange}
 use Rattle.sw_text.specs.declared.fault.TextFault.{TextFault}
 use Rattle.sw_text.specs.declared.fault.TextFault.TheVariants as fault
-use Rattle.sw_text.specs.Table.{only_known, absent, text_at, number_at, number_or, table_or_none, flag_or_false}
-use Rattle.sw_file.specs.Keys.{node_keys, target_keys, switch_keys, route_keys, link_keys}
+use Rattle.sw_text.specs.Table.{only_known, absent, text_at, number_at, number_or, number_or_none, table_or_none, flag_or_false}
+use Rattle.sw_file.specs.Keys.{node_keys, target_keys, most_slots, switch_keys, route_keys, link_keys}
 use Rattle.sw_file.specs.Names.{new_name, place_at}
 use Rattle.sw_file.specs.Nodes.{size_at, config_of, target_or_none, node_of, next_node}
 use Rattle.sw_file.specs.Switches.{arbitration_at, ports_at, route_of, routes_at, switch_of, next_switch}
@@ -57,14 +57,15 @@ pub size_is : (i start size : ℕ) (ms : Members) → number_at (section.Target 
 unfolding size_at
 size_is i start size ms at_size window = rw (at_size, le-leb (start + size) 1099511627776 window) refl
 
-pub config_is : (version : Version) (i : ℕ) (ms : Members) (keys : List Key) (u : Unit {0}) (logical key start size slots : ℕ) → keys ≡ target_keys version → only_known (section.Target i) keys ms ≡ Ok u
+pub config_is : (version : Version) (i : ℕ) (ms : Members) (keys : List Key) (u : Unit {0}) (logical key start size most slots : ℕ) → keys ≡ target_keys version → most ≡ most_slots version → only_known (section.Target i) keys ms ≡ Ok u
     → number_at (section.Target i) Logical 32 254 ms ≡ Ok logical → number_or (section.Target i) TargetKey 0 255 0 ms ≡ Ok key → number_or (section.Target i) Start 0 1099511627775 0 ms ≡ Ok start
-    → size_at i start ms ≡ Ok size → number_or (section.Target i) Slots 1 8 1 ms ≡ Ok slots
+    → size_at i start ms ≡ Ok size → number_or (section.Target i) Slots 1 most 1 ms ≡ Ok slots
     → config_of version i ms ≡ Ok (record { logical = logical; key = key; start = start; size = size; slots = slots })
 unfolding config_of
-config_is version i ms keys u logical key start size slots same known at_logical at_key at_start at_size at_slots =
+config_is version i ms keys u logical key start size most slots same few known at_logical at_key at_start at_size at_slots =
     let known_so : only_known (section.Target i) (target_keys version) ms ≡ Ok u = rw same at known in
-    rw (known_so, at_logical, at_key, at_start, at_size, at_slots) refl
+    let slots_so : number_or (section.Target i) Slots 1 (most_slots version) 1 ms ≡ Ok slots = rw few at at_slots in
+    rw (known_so, at_logical, at_key, at_start, at_size, slots_so) refl
 
 pub config_refused : (version : Version) (i : ℕ) (ms : Members) (keys : List Key) (u : Unit {0}) (logical key start size : ℕ) → keys ≡ target_keys version → only_known (section.Target i) keys ms ≡ Ok u
     → number_at (section.Target i) Logical 32 254 ms ≡ Ok logical → number_or (section.Target i) TargetKey 0 255 0 ms ≡ Ok key → number_or (section.Target i) Start 0 1099511627775 0 ms ≡ Ok start
@@ -101,10 +102,13 @@ link_is version i d ms keys u a b buffer buffer_a buffer_b same known at_a at_b 
     let known_so : only_known (section.Link i) (link_keys version) ms ≡ Ok u = rw same at known in
     rw (known_so, at_a, at_b, at_buffer, at_buffer_a, at_buffer_b) refl
 
-pub node_is : (version : Version) (i : ℕ) (d : Declaration) (ms : Members) (u : Unit {0}) (name : List ℕ) (target : Option TargetConfig) → only_known (section.Node i) node_keys ms ≡ Ok u
-    → new_name (section.Node i) (part_names d) ms ≡ Ok name → target_or_none version i ms ≡ Ok target → next_node version i d ms ≡ Ok (record d { nodes = d.nodes ++ record { name = name; target = target } ∷ [] })
+pub node_is : (version : Version) (i : ℕ) (d : Declaration) (ms : Members) (keys : List Key) (u : Unit {0}) (name : List ℕ) (target : Option TargetConfig) (outstanding : Option ℕ) → keys ≡ node_keys version → only_known (section.Node i) keys ms ≡ Ok u
+    → new_name (section.Node i) (part_names d) ms ≡ Ok name → target_or_none version i ms ≡ Ok target → number_or_none (section.Node i) Outstanding 1 65535 ms ≡ Ok outstanding
+    → next_node version i d ms ≡ Ok (record d { nodes = d.nodes ++ record { name = name; target = target; outstanding = outstanding } ∷ [] })
 unfolding node_of next_node
-node_is version i d ms u name target known at_name at_target = rw (known, at_name, at_target) refl
+node_is version i d ms keys u name target outstanding same known at_name at_target at_outstanding =
+    let known_so : only_known (section.Node i) (node_keys version) ms ≡ Ok u = rw same at known in
+    rw (known_so, at_name, at_target, at_outstanding) refl
 
 pub switch_is : (version : Version) (i : ℕ) (d : Declaration) (ms : Members) (u : Unit {0}) (name : List ℕ) (arbitration : Arbitration) (routes : List RouteEntry) → only_known (section.Switch i) switch_keys ms ≡ Ok u
     → new_name (section.Switch i) (part_names d) ms ≡ Ok name → arbitration_at i ms ≡ Ok arbitration → routes_at version i ms ≡ Ok routes

@@ -1,12 +1,13 @@
--- What reading a network file comes to, and what the rows of a migrated one are.
-use Rattle.std.specs.Prelude.{◌≡◌, ◌≢◌, ◌↔◌, ℕ, suc, true, false, All, AllPairs, List, [], length, take, slice_get, Some, Result, Ok}
-use Rattle.toml.specs.Data.{Members}
+-- What reading a network file comes to, in each version, and what the rows of a migrated one are.
+use Rattle.std.specs.Prelude.{◌≡◌, ◌≢◌, ◌↔◌, ℕ, suc, true, false, pos, All, AllPairs, List, [], length, take, slice_get, Some, Result, Ok}
+use Rattle.toml.specs.Data.{Members, integer}
 use Rattle.sw_config.specs.Entries.{Declaration, part_names, flow_names, all_flows}
 use Rattle.sw_config.specs.Valid.{IsValid}
 use Rattle.sw_text.specs.declared.keys.Key.{Key}
-use Rattle.sw_text.specs.declared.keys.Key.TheVariants.{Node, Switch, Link, Flow, Target, Route, Reply}
+use Rattle.sw_text.specs.declared.keys.Key.TheVariants.{Version as VersionKey, Node, Switch, Link, Flow, Target, Route, Reply}
 use Rattle.sw_text.specs.declared.keys.Section.TheVariants as section
 use Rattle.sw_text.specs.declared.keys.Version.{Version}
+use Rattle.sw_text.specs.declared.keys.Version.TheVariants.{Two, Three}
 use Rattle.sw_text.specs.declared.fault.TextFault.{TextFault}
 use Rattle.sw_text.specs.Table.{tables_or_none, table_or_none}
 use Rattle.sw_text.specs.Names.{is_name}
@@ -19,6 +20,7 @@ use Rattle.sw_file.specs.FlowTables.{flow_of}
 use Rattle.sw_file.specs.Network.{version_of, network_of, network_text}
 use Rattle.sw_file.specs.Tables.{IsNetworkText}
 use Rattle.sw_file.specs.Rows.{Entry, Row, goes_on, rows}
+use Rattle.sw_file.specs.Tree.{with_key}
 
 -- the document's list at the key has one table for each entry, and entry i is what table i declares
 pub record Declares {A : Type 0} (key : Key) (ms : Members) (declared : ℕ → Members → Result A TextFault) (entries : List A) : Type 0 where
@@ -40,14 +42,14 @@ pub record IsDeclaredBy (ms : Members) (version : Version) (d : Declaration) : T
   pub nodes : Declares Node ms (λ i. node_of version i (before_node d i)) d.nodes
   pub switches : Declares Switch ms (λ i. switch_of version i (before_switch d i)) d.switches
   pub links : Declares Link ms (λ i. link_of version i (length d.nodes) (part_names d)) d.links
-  pub flows : Declares Flow ms (λ i. flow_of i d.nodes (flow_names (take i d.flows))) d.flows
+  pub flows : Declares Flow ms (λ i. flow_of version i d.nodes (flow_names (take i d.flows))) d.flows
 
 abbrev pub ReadsEachEntry : Type 0
 ReadsEachEntry = (ms : Members) (d : Declaration) → network_of ms ≡ Ok d → (version : Version) × IsDeclaredBy ms version d
 
 -- a table of a node has its keys alone, and so has its target
 pub record IsKnownNode (version : Version) (i : ℕ) (node : Members) : Type 0 where
-  pub keys : HasOnly node_keys node
+  pub keys : HasOnly (node_keys version) node
   pub target : (target : Members) → table_or_none (section.Node i) Target node ≡ Ok (Some target) → HasOnly (target_keys version) target
 
 -- so has a table of a switch, and each entry of its routing table
@@ -56,9 +58,9 @@ pub record IsKnownSwitch (version : Version) (i : ℕ) (switch : Members) : Type
   pub routes : (routes : List Members) (j : ℕ) (route : Members) → tables_or_none (section.Switch i) Route switch ≡ Ok routes → slice_get routes j ≡ Some route → HasOnly (route_keys version) route
 
 -- so has a table of a flow, and its reply
-pub record IsKnownFlow (i : ℕ) (flow : Members) : Type 0 where
+pub record IsKnownFlow (version : Version) (i : ℕ) (flow : Members) : Type 0 where
   pub keys : HasOnly flow_keys flow
-  pub reply : (reply : Members) → table_or_none (section.Flow i) Reply flow ≡ Ok (Some reply) → HasOnly reply_keys reply
+  pub reply : (reply : Members) → table_or_none (section.Flow i) Reply flow ≡ Ok (Some reply) → HasOnly (reply_keys version) reply
 
 -- each table of the document's list at the key is as P says
 abbrev pub EachTable : Key → Members → (ℕ → Members → Type 0) → Type 0
@@ -71,7 +73,7 @@ pub record IsKnownDocument (version : Version) (ms : Members) : Type 0 where
   pub nodes : EachTable Node ms (IsKnownNode version)
   pub switches : EachTable Switch ms (IsKnownSwitch version)
   pub links : EachTable Link ms (λ i link. HasOnly (link_keys version) link)
-  pub flows : EachTable Flow ms IsKnownFlow
+  pub flows : EachTable Flow ms (IsKnownFlow version)
 
 -- an unknown key anywhere in the document refuses the text
 abbrev pub RefusesUnknownKeys : Type 0
@@ -94,6 +96,14 @@ pub record HasNames (d : Declaration) : Type 0 where
 -- so it is in each network that is read
 abbrev pub ReadNamesAreNames : Type 0
 ReadNamesAreNames = (bytes : List ℕ) (d : Declaration) → network_text bytes ≡ Ok d → HasNames d
+
+-- the document's table with the number 3 as its version
+abbrev pub as_version_three : Members → Members
+as_version_three ms = with_key VersionKey (integer (pos 3)) ms
+
+-- a file of version 2 becomes one of version 3 by its number alone, and declares the same network
+abbrev pub VersionTwoIsKept : Type 0
+VersionTwoIsKept = (ms : Members) (d : Declaration) → version_of ms ≡ Ok Two → network_of ms ≡ Ok d → (version_of (as_version_three ms) ≡ Ok Three) × (network_of (as_version_three ms) ≡ Ok d)
 
 -- Rows are the longest: no row's first entry goes on with the row before it.
 abbrev pub RowsAreLongest : Type 0

@@ -1,11 +1,11 @@
 -- What a file and the file that it is migrated to have in common.
-use Rattle.std.specs.Prelude.{◌≡◌, ℕ, false, List, map, Result, Ok, Err, Vec}
+use Rattle.std.specs.Prelude.{◌≡◌, ◌⊎◌, ℕ, false, List, map, Result, Ok, Err, Vec}
 use Rattle.std.specs.declared.alloc.Global.{Global}
 use Rattle.toml.specs.Data.{Members}
 use Rattle.toml.specs.Text.{IsDocumentText}
 use Rattle.sw_config.specs.Entries.{Declaration, look_at}
 use Rattle.sw_text.specs.declared.keys.Version.{Version}
-use Rattle.sw_text.specs.declared.keys.Version.TheVariants.{One, Two}
+use Rattle.sw_text.specs.declared.keys.Version.TheVariants.{One, Two, Three}
 use Rattle.sw_text.specs.Document.{document_of}
 use Rattle.sw_file.specs.Network.{version_of, network_of, network_text}
 use Rattle.sw_file.specs.declared.fault.MigrateFault.{MigrateFault}
@@ -41,10 +41,10 @@ pub record IsMigration (bytes text : List ℕ) : Type 0 where
   pub new : DeclaresAs Two new_tree
   pub same : IsSameNetwork old.network new.network
 
--- Why a text is not migrated: it has this first fault, or it is that of a network of version 2 already. Memory can always be wanting.
+-- Why a text is not migrated: it has this first fault, or it is that of a network of version 2 or 3 already. Memory can always be wanting.
 abbrev pub Refuses : List ℕ → MigrateFault → Type 0
 Refuses bytes (Text fault) = network_text bytes ≡ Err fault
-Refuses bytes NotOld = (tree : Members) × (document_of bytes ≡ Ok tree) × DeclaresAs Two tree
+Refuses bytes NotOld = (tree : Members) × (document_of bytes ≡ Ok tree) × (DeclaresAs Two tree ⊎ DeclaresAs Three tree)
 Refuses bytes Memory = Unit {0}
 
 -- what migrating gave

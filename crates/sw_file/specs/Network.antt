@@ -12,7 +12,7 @@ use Rattle.sw_text.specs.declared.keys.Key.{Key}
 use Rattle.sw_text.specs.declared.keys.Key.TheVariants.{Version as VersionKey, Node, Switch, Link, Flow}
 use Rattle.sw_text.specs.declared.keys.Section.TheVariants.{Document}
 use Rattle.sw_text.specs.declared.keys.Version.{Version}
-use Rattle.sw_text.specs.declared.keys.Version.TheVariants.{One, Two}
+use Rattle.sw_text.specs.declared.keys.Version.TheVariants.{One, Two, Three}
 use Rattle.sw_text.specs.declared.fault.KeyFault.TheVariants.{OutOfRange}
 use Rattle.sw_text.specs.declared.fault.TextFault.{TextFault}
 use Rattle.sw_text.specs.declared.fault.TextFault.TheVariants as fault
@@ -25,12 +25,16 @@ use Rattle.sw_file.specs.Switches.{next_switch}
 use Rattle.sw_file.specs.Links.{next_link}
 use Rattle.sw_file.specs.FlowTables.{next_flow}
 
--- the document has its keys alone, and its version is 1 or 2
+-- the version of that number
+abbrev pub version_numbered : ℕ → Version
+version_numbered n = if n == 1 then One else if n == 2 then Two else Three
+
+-- the document has its keys alone, and its version is 1 to 3
 unfoldable pub version_of : Members → Result Version TextFault
 version_of ms = do
   known ← only_known Document document_keys ms
-  n ← number_at Document VersionKey 1 2 ms
-  Ok (if n == 1 then One else Two)
+  n ← number_at Document VersionKey 1 3 ms
+  Ok (version_numbered n)
 
 -- the tables of one of the document's lists, which are counted before they are looked at
 abbrev pub entries : Key → ℕ → TextFault → Members → Result (List Members) TextFault
@@ -65,10 +69,10 @@ wired d = unless (fault_of (wiring_of d))
     unless (Some f) = Err (fault.Topology f)
 
 -- the flows that it lists
-unfoldable pub with_flows : Declaration → Members → Result Declaration TextFault
-with_flows d ms = do
+unfoldable pub with_flows : Version → Declaration → Members → Result Declaration TextFault
+with_flows version d ms = do
   tables ← entries Flow MAX_FLOWS (fault.Key OutOfRange Document Flow) ms
-  walk next_flow d tables
+  walk (next_flow version) d tables
 
 -- the nodes, the switches and the links that it lists
 unfoldable pub with_parts : Version → Declaration → Members → Result Declaration TextFault
@@ -83,7 +87,7 @@ network_of ms = do
   version ← version_of ms
   parts ← with_parts version empty ms
   network ← wired parts
-  with_flows network ms
+  with_flows version network ms
 
 -- the network that a text declares, or its first fault
 abbrev pub network_text : List ℕ → Result Declaration TextFault

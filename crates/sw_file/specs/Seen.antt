@@ -1,8 +1,8 @@
 -- What the program's parts say, in the words of the definitions.
-use Rattle.std.specs.Prelude.{◌≡◌, Result, Ok, Err}
+use Rattle.std.specs.Prelude.{◌≡◌, ◌⊎◌, Result, Ok, Err}
 use Rattle.toml.specs.Data.{Members}
 use Rattle.toml.specs.View.{table_view}
-use Rattle.sw_text.specs.declared.keys.Version.TheVariants.{One, Two}
+use Rattle.sw_text.specs.declared.keys.Version.TheVariants.{One, Two, Three}
 use Rattle.sw_text.specs.declared.fault.FileFault.{FileFault}
 use Rattle.sw_text.specs.declared.fault.FileFault.TheVariants as file
 use Rattle.sw_file.specs.Network.{network_of}
@@ -25,10 +25,10 @@ abbrev pub refusal : FileFault → MigrateFault
 refusal (file.Text fault) = Text fault
 refusal file.Memory = Memory
 
--- a tree is not migrated where it declares no network, or is of version 2 already
+-- a tree is not migrated where it declares no network, or is of version 2 or 3 already
 abbrev pub RefusesTree : Members → MigrateFault → Type 0
 RefusesTree tree (Text fault) = network_of tree ≡ Err fault
-RefusesTree tree NotOld = DeclaresAs Two tree
+RefusesTree tree NotOld = DeclaresAs Two tree ⊎ DeclaresAs Three tree
 RefusesTree tree Memory = Unit {0}
 
 -- what the look at a tree gave

@@ -1,6 +1,6 @@
 -- The tables of a network file in words: which keys each may have, what stands there, and the entry that it is for.
 -- (The format of the file is this project's choice.)
-use Rattle.std.specs.Prelude.{◌≡◌, ◌≢◌, ◌≤◌, ◌<◌, ◌+◌, ℕ, true, false, List, [], length, position, Some, None, IfSome, Ok, AllPairs}
+use Rattle.std.specs.Prelude.{◌≡◌, ◌≢◌, ◌≤◌, ◌<◌, ◌+◌, ℕ, true, false, List, [], length, position, Option, Some, None, IfSome, Ok, AllPairs}
 use Rattle.std.specs.Str.{bytes_eq}
 use Rattle.toml.specs.Data.{Data, Members}
 use Rattle.sw_topo.specs.declared.limits.TheConstants.{MAX_NODES, MAX_SWITCHES, MAX_LINKS, MAX_FLOWS}
@@ -16,13 +16,13 @@ use Rattle.sw_rmap.specs.declared.config.TargetConfig.{TargetConfig}
 use Rattle.sw_config.specs.Entries.{NodeEntry, SwitchEntry, LinkEntry, ReplyEntry, FlowEntry, Declaration, part_names, flow_names, wiring_of}
 use Rattle.sw_config.specs.Valid.{IsReply}
 use Rattle.sw_text.specs.declared.keys.Key.{Key}
-use Rattle.sw_text.specs.declared.keys.Key.TheVariants.{Version as VersionKey, Node, Switch, Link, Flow, Name, Target, Logical, TargetKey, Start, Size, Slots, Arbiter, Route, Address, Last, Ports, Delete, A, APort, B, BPort, Buffer, BufferA, BufferB, From, To, Left, Reply, Path, Initiator}
+use Rattle.sw_text.specs.declared.keys.Key.TheVariants.{Version as VersionKey, Node, Switch, Link, Flow, Name, Target, Logical, TargetKey, Start, Size, Slots, Arbiter, Route, Address, Last, Ports, Delete, A, APort, B, BPort, Buffer, BufferA, BufferB, From, To, Left, Reply, Path, Initiator, Outstanding}
 use Rattle.sw_text.specs.declared.keys.Version.{Version}
-use Rattle.sw_text.specs.declared.keys.Version.TheVariants.{One, Two}
+use Rattle.sw_text.specs.declared.keys.Version.TheVariants.{One, Two, Three}
 use Rattle.sw_text.specs.Document.{document_of}
 use Rattle.sw_text.specs.KeyLaws.{HasOnly}
 use Rattle.sw_text.specs.Names.{is_name}
-use Rattle.sw_file.specs.Keys.{document_keys, node_keys, target_keys, switch_keys, route_keys, link_keys, flow_keys, reply_keys}
+use Rattle.sw_file.specs.Keys.{document_keys, node_keys, target_keys, most_slots, switch_keys, route_keys, link_keys, flow_keys, reply_keys}
 use Rattle.sw_file.specs.Switches.{arbitration_named}
 use Rattle.sw_file.specs.FlowTables.{node_names}
 use Rattle.sw_file.specs.Values.{IsText, IsFlag, IsNumber, IsListOf, IsTableOf, Lacks, Has, HasOr, HasIfAny, HasTables}
@@ -46,13 +46,18 @@ pub record IsTargetTable (version : Version) (ms : Members) (c : TargetConfig) :
   pub start : HasOr (IsNumber 0 1099511627775) 0 Start ms c.start
   pub size : Has (IsNumber 1 65536) Size ms c.size
   pub window : c.start + c.size ≤ 1099511627776
-  pub slots : HasOr (IsNumber 1 8) 1 Slots ms c.slots
+  pub slots : HasOr (IsNumber 1 (most_slots version)) 1 Slots ms c.slots
+
+-- at the key `outstanding` stands how many commands may be unanswered at once, if that is limited
+abbrev pub HasOutstanding : Members → Option ℕ → Type 0
+HasOutstanding ms outstanding = HasIfAny (IsNumber 1 65535) Outstanding ms outstanding
 
 -- a node, which is a target where it has a table `target`
 pub record IsNodeTable (version : Version) (ms : Members) (node : NodeEntry) : Type 0 where
-  pub keys : HasOnly node_keys ms
+  pub keys : HasOnly (node_keys version) ms
   pub named : IsNamed ms node.name
   pub target : HasIfAny (IsTableOf (IsTargetTable version)) Target ms node.target
+  pub outstanding : HasOutstanding ms node.outstanding
 
 -- the value is the name of this arbitration
 pub record IsArbitration (value : Data) (arbitration : Arbitration) : Type 0 where
@@ -103,14 +108,15 @@ pub record IsLinkTable (version : Version) (nodes : ℕ) (names : List (List ℕ
 abbrev pub HasBytes : Key → Members → List ℕ → Type 0
 HasBytes key ms bytes = HasOr (IsListOf (IsNumber 0 255)) [] key ms bytes
 
--- where the replies of a flow go
-pub record IsReplyTable (ms : Members) (reply : ReplyEntry) : Type 0 where
-  pub keys : HasOnly reply_keys ms
+-- where the replies of a flow go, and how many of its commands may be unanswered
+pub record IsReplyTable (version : Version) (ms : Members) (reply : ReplyEntry) : Type 0 where
+  pub keys : HasOnly (reply_keys version) ms
   pub path : HasBytes Path ms reply.path
   pub initiator : Has (IsNumber 0 255) Initiator ms reply.initiator
+  pub outstanding : HasOutstanding ms reply.outstanding
 
 -- a flow; replies, if there are any, can come back from the node `to`
-pub record IsFlowTable (nodes : List NodeEntry) (ms : Members) (flow : FlowEntry) : Type 0 where
+pub record IsFlowTable (version : Version) (nodes : List NodeEntry) (ms : Members) (flow : FlowEntry) : Type 0 where
   pub keys : HasOnly flow_keys ms
   pub named : IsNamed ms flow.name
   pub from : Refers (node_names nodes) From ms flow.from
@@ -118,23 +124,24 @@ pub record IsFlowTable (nodes : List NodeEntry) (ms : Members) (flow : FlowEntry
   pub address : HasBytes Address ms flow.address
   pub few : length flow.address ≤ 32
   pub left : HasOr (IsNumber 0 (length flow.address)) 0 Left ms flow.left
-  pub reply : HasIfAny (IsTableOf IsReplyTable) Reply ms flow.reply
+  pub reply : HasIfAny (IsTableOf (IsReplyTable version)) Reply ms flow.reply
   pub way : IfSome flow.reply (IsReply nodes flow.to)
 
 -- how a file writes its version
 abbrev pub version_number : Version → ℕ
 version_number One = 1
 version_number Two = 2
+version_number Three = 3
 
 -- The document declares this network: it has known keys alone and a version; each list is not too long, and each of its tables is for its
 -- entry; no two parts and no two flows have one name; and the parts are rightly joined.
 pub record IsNetworkTable (version : Version) (ms : Members) (d : Declaration) : Type 0 where
   pub keys : HasOnly document_keys ms
-  pub versioned : Has (IsNumber 1 2) VersionKey ms (version_number version)
+  pub versioned : Has (IsNumber 1 3) VersionKey ms (version_number version)
   pub nodes : HasTables (IsNodeTable version) Node ms d.nodes
   pub switches : HasTables (IsSwitchTable version) Switch ms d.switches
   pub links : HasTables (IsLinkTable version (length d.nodes) (part_names d)) Link ms d.links
-  pub flows : HasTables (IsFlowTable d.nodes) Flow ms d.flows
+  pub flows : HasTables (IsFlowTable version d.nodes) Flow ms d.flows
   pub few_nodes : length d.nodes ≤ MAX_NODES
   pub few_switches : length d.switches ≤ MAX_SWITCHES
   pub few_links : length d.links ≤ MAX_LINKS

@@ -3,7 +3,7 @@ ghost use Rattle.std.specs.Prelude.{◌≡◌, ◌≤◌, ◌<◌, ◌+◌, ℕ,
 ghost use Rattle.toml.specs.View.{table_view};
 ghost use Rattle.sw_config.specs.Entries.{empty};
 ghost use Rattle.sw_text.specs.Gives.{Gives};
-ghost use Rattle.sw_file.specs.Network.{version_of, entries, with_parts, with_flows, network_of, network_text};
+ghost use Rattle.sw_file.specs.Network.{version_numbered, version_of, entries, with_parts, with_flows, network_of, network_text};
 ghost use Rattle.sw_file.specs.Lists.{list_key, most_parts, next_part, with_list, HasParts};
 
 use crate::flows::add_flow;
@@ -130,26 +130,36 @@ fn parts(
 }
 
 #[tactic(auto, unfolding(crate::specs::Network::with_flows))]
-fn read_flows(alloc: Global, document: &TableEntry, network: &mut Network) -> Result<(), FileFault>
+fn read_flows(
+    alloc: Global,
+    version: Version,
+    document: &TableEntry,
+    network: &mut Network,
+) -> Result<(), FileFault>
     requires document { document.now.section ≡ Section.Document }
     requires none { network.old.flows ≡ [] }
-    ensures { Gives (λ _. network.new) result (with_flows network.old (table_view document.now.table.now)) }
+    ensures { Gives (λ _. network.new) result (with_flows version network.old (table_view document.now.table.now)) }
 {
     let over = TextFault::Key(KeyFault::OutOfRange, Section::Document, Key::Flow);
     let tables = entries(alloc, document, Key::Flow, MAX_FLOWS, over)?;
     for (i, table) in tables.iter().enumerate() {
-        add_flow(alloc, i, table, network)?;
+        add_flow(alloc, version, i, table, network)?;
     }
     Ok(())
 }
 
-fn with_flows(alloc: Global, document: &TableEntry, network: Network) -> Result<Network, FileFault>
+fn with_flows(
+    alloc: Global,
+    version: Version,
+    document: &TableEntry,
+    network: Network,
+) -> Result<Network, FileFault>
     requires document { document.now.section ≡ Section.Document }
     requires none { network.flows ≡ [] }
-    ensures { Gives (λ n. n) result (with_flows network (table_view document.now.table.now)) }
+    ensures { Gives (λ n. n) result (with_flows version network (table_view document.now.table.now)) }
 {
     let mut network = network;
-    match read_flows(alloc, document, &mut network) {
+    match read_flows(alloc, version, document, &mut network) {
         Ok(()) => Ok(network),
         Err(fault) => {
             network.discard();
@@ -158,11 +168,22 @@ fn with_flows(alloc: Global, document: &TableEntry, network: Network) -> Result<
     }
 }
 
+/// The version of that number, 1 to 3.
+fn version_numbered(number: u64) -> Version
+    ensures { result ≡ version_numbered number }
+{
+    match number {
+        1 => Version::One,
+        2 => Version::Two,
+        _ => Version::Three,
+    }
+}
+
 /// The version of the file whose document has this table.
 ///
 /// # Errors
 ///
-/// `Text`: the document has a key that it may not have, or its version is none of 1 and 2. `Memory`: there is no memory for a name.
+/// `Text`: the document has a key that it may not have, or its version is none of 1 to 3. `Memory`: there is no memory for a name.
 #[tactic(auto, unfolding(crate::specs::Network::version_of))]
 pub fn declared_version(alloc: Global, table: &Table) -> Result<Version, FileFault>
     ensures { Gives (λ v. v) result (version_of (table_view table.now)) }
@@ -172,12 +193,8 @@ pub fn declared_version(alloc: Global, table: &Table) -> Result<Version, FileFau
         table,
     };
     document.only_known(alloc, DOCUMENT_KEYS)?;
-    let number = document.number(Key::Version, 1, 2)?;
-    Ok(if number == 1 {
-        Version::One
-    } else {
-        Version::Two
-    })
+    let number = document.number(Key::Version, 1, 3)?;
+    Ok(version_numbered(number))
 }
 
 /// The network that the table of a document declares.
@@ -196,13 +213,13 @@ pub fn declared_network(alloc: Global, table: &Table) -> Result<Network, FileFau
     let version = declared_version(alloc, table)?;
     let builder = parts(alloc, version, &document)?;
     match builder.wire(alloc) {
-        Ok(network) => with_flows(alloc, &document, network),
+        Ok(network) => with_flows(alloc, version, &document, network),
         Err(TopoError::Fault(fault)) => Err(FileFault::Text(TextFault::Topology(fault))),
         Err(TopoError::Memory) => Err(FileFault::Memory),
     }
 }
 
-/// Reads a network file of version 1 or 2: the network that it declares.
+/// Reads a network file of version 1 to 3: the network that it declares.
 ///
 /// # Errors
 ///

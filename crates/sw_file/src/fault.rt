@@ -13,7 +13,7 @@ pub enum MigrateFault {
     /// The first fault of the text: it declares no network.
     #[error("the text has a fault")]
     Text(TextFault),
-    /// The text is of version 2 already.
+    /// The text is of version 2 or 3 already.
     #[error("the file is not of version 1")]
     NotOld,
     /// There is no memory for it: this tells nothing of the text.

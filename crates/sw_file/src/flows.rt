@@ -10,11 +10,12 @@ ghost use Rattle.sw_text.specs.Gives.{Gives};
 ghost use Rattle.sw_file.specs.Names.{place_at};
 ghost use Rattle.sw_file.specs.FlowTables.{node_names, addressed, can_reply, replies_at, with_replies, flow_of, next_flow};
 
-use crate::keys::{FLOW_KEYS, REPLY_KEYS};
+use crate::keys::{FLOW_KEYS, reply_keys};
+use crate::nodes::outstanding_or_none;
 use std::alloc::Global;
 use std::marker::Model;
 use sw_config::{Flow, Network, Reply};
-use sw_text::{FileFault, Key, KeyFault, Section, TableEntry, TextFault};
+use sw_text::{FileFault, Key, KeyFault, Section, TableEntry, TextFault, Version};
 use sw_topo::limits::{FIRST_LOGICAL, LAST_LOGICAL, MAX_ADDRESS, MAX_FLOWS, MAX_REPLY_PATH};
 use toml::Table;
 
@@ -61,6 +62,7 @@ fn can_reply(network: &Network, to: u16, reply: &Reply) -> bool
 #[tactic(auto, unfolding(crate::specs::FlowTables::replies_at, crate::specs::FlowTables::reply_or_none, crate::specs::FlowTables::reply_of))]
 fn replies_at(
     alloc: Global,
+    version: Version,
     index: usize,
     flow: &TableEntry,
     network: &Network,
@@ -68,7 +70,7 @@ fn replies_at(
 ) -> Result<Option<Reply>, FileFault>
     requires section { flow.now.section ≡ Section.Flow index }
     requires within { to < length network.now.nodes }
-    ensures gives { Gives (λ r. r) result (replies_at index network.now.nodes to (table_view flow.now.table.now)) }
+    ensures gives { Gives (λ r. r) result (replies_at version index network.now.nodes to (table_view flow.now.table.now)) }
     ensures valid { IfOk result (λ r. IfSome r (IsReply network.now.nodes to)) }
 {
     let Some(table) = flow.table_or_none(Key::Reply)? else {
@@ -78,10 +80,11 @@ fn replies_at(
         section: Section::Reply(index),
         table,
     };
-    entry.only_known(alloc, REPLY_KEYS)?;
+    entry.only_known(alloc, reply_keys(version))?;
     let path = entry.numbers_or_none(alloc, Key::Path, 255)?;
     let initiator = entry.number(Key::Initiator, 0, 255)? as u8;
-    let reply = Reply::new(path, initiator);
+    let outstanding = outstanding_or_none(&entry)?;
+    let reply = Reply::new(path, initiator, outstanding);
     if !can_reply(network, to, &reply) {
         return Err(FileFault::Text(TextFault::ReplyShape(index)));
     }
@@ -110,12 +113,13 @@ fn with_replies(
 #[tactic(auto, unfolding(crate::specs::FlowTables::flow_of, crate::specs::Names::new_name))]
 fn flow_of(
     alloc: Global,
+    version: Version,
     index: usize,
     flow: &TableEntry,
     network: &Network,
 ) -> Result<Flow, FileFault>
     requires { flow.now.section ≡ Section.Flow index }
-    ensures gives { Gives (λ f. f) result (flow_of index network.now.nodes (flow_names network.now.flows) (table_view flow.now.table.now)) }
+    ensures gives { Gives (λ f. f) result (flow_of version index network.now.nodes (flow_names network.now.flows) (table_view flow.now.table.now)) }
     ensures fresh { IfOk result (λ f. list_any (bytes_eq f.name) (flow_names network.now.flows) ≡ false) }
     ensures valid { IfOk result (IsFlow network.now.nodes) }
 {
@@ -127,7 +131,7 @@ fn flow_of(
     let from = node_at(flow, Key::From, network)?;
     let to = node_at(flow, Key::To, network)?;
     let (address, left) = addressed(alloc, index, flow)?;
-    let replies = replies_at(alloc, index, flow, network, to);
+    let replies = replies_at(alloc, version, index, flow, network, to);
     with_replies(alloc, name, from, to, address, left, replies)
 }
 
@@ -135,19 +139,20 @@ fn flow_of(
 #[tactic(auto, unfolding(crate::specs::FlowTables::next_flow))]
 pub(crate) fn add_flow(
     alloc: Global,
+    version: Version,
     index: usize,
     table: &Table,
     network: &mut Network,
 ) -> Result<(), FileFault>
     requires { length network.old.flows < MAX_FLOWS }
-    ensures gives { Gives (λ _. network.new) result (next_flow index network.old (table_view table.now)) }
+    ensures gives { Gives (λ _. network.new) result (next_flow version index network.old (table_view table.now)) }
     ensures one_more { OnOk result (length network.new.flows ≡ length network.old.flows + 1) }
 {
     let flow = TableEntry {
         section: Section::Flow(index),
         table,
     };
-    let made = flow_of(alloc, index, &flow, network)?;
+    let made = flow_of(alloc, version, index, &flow, network)?;
     network.add_flow(alloc, made)?;
     Ok(())
 }

@@ -1,19 +1,16 @@
-//! Which keys the tables of a network file may have.
+//! Which keys the tables of a network file may have, and how many slots a target.
 ghost use Rattle.std.specs.Prelude.{◌≡◌};
-ghost use Rattle.sw_file.specs.Keys.{target_keys, route_keys, link_keys};
+ghost use Rattle.sw_file.specs.Keys.{node_keys, target_keys, most_slots, route_keys, link_keys, reply_keys};
 
 use sw_text::{Key, Version};
 
-/// Those of the document, in either version.
+/// Those of the document, in each version.
 pub const DOCUMENT_KEYS: &[Key] = &[Key::Version, Key::Node, Key::Switch, Key::Link, Key::Flow];
 
-/// Those of a node, in either version.
-pub const NODE_KEYS: &[Key] = &[Key::Name, Key::Target];
-
-/// Those of a switch, in either version.
+/// Those of a switch, in each version.
 pub const SWITCH_KEYS: &[Key] = &[Key::Name, Key::Arbiter, Key::Route];
 
-/// Those of a flow, in either version.
+/// Those of a flow, in each version.
 pub const FLOW_KEYS: &[Key] = &[
     Key::Name,
     Key::From,
@@ -23,10 +20,18 @@ pub const FLOW_KEYS: &[Key] = &[
     Key::Reply,
 ];
 
-/// Those of a flow's reply, in either version.
-pub const REPLY_KEYS: &[Key] = &[Key::Path, Key::Initiator];
+/// Those of a node: `outstanding` is of version 3.
+pub fn node_keys(version: Version) -> &'static [Key]
+    ensures { result.now ≡ node_keys version }
+{
+    match version {
+        Version::One => &[Key::Name, Key::Target],
+        Version::Two => &[Key::Name, Key::Target],
+        Version::Three => &[Key::Name, Key::Target, Key::Outstanding],
+    }
+}
 
-/// Those of a node's target: `slots` is of version 2.
+/// Those of a node's target: `slots` is of version 2, and of later ones.
 pub fn target_keys(version: Version) -> &'static [Key]
     ensures { result.now ≡ target_keys version }
 {
@@ -39,20 +44,39 @@ pub fn target_keys(version: Version) -> &'static [Key]
             Key::Size,
             Key::Slots,
         ],
+        Version::Three => &[
+            Key::Logical,
+            Key::TargetKey,
+            Key::Start,
+            Key::Size,
+            Key::Slots,
+        ],
     }
 }
 
-/// Those of a table entry of a switch: `last` is of version 2.
+/// How many replies a target may owe at most: 8 or 64. Version 1 has no key for it.
+pub fn most_slots(version: Version) -> u64
+    ensures { result ≡ most_slots version }
+{
+    match version {
+        Version::One => 8,
+        Version::Two => 8,
+        Version::Three => 64,
+    }
+}
+
+/// Those of a table entry of a switch: `last` is of version 2, and of later ones.
 pub fn route_keys(version: Version) -> &'static [Key]
     ensures { result.now ≡ route_keys version }
 {
     match version {
         Version::One => &[Key::Address, Key::Ports, Key::Delete],
         Version::Two => &[Key::Address, Key::Last, Key::Ports, Key::Delete],
+        Version::Three => &[Key::Address, Key::Last, Key::Ports, Key::Delete],
     }
 }
 
-/// Those of a link: `buffer_a` and `buffer_b` are of version 2.
+/// Those of a link: `buffer_a` and `buffer_b` are of version 2, and of later ones.
 pub fn link_keys(version: Version) -> &'static [Key]
     ensures { result.now ≡ link_keys version }
 {
@@ -67,5 +91,25 @@ pub fn link_keys(version: Version) -> &'static [Key]
             Key::BufferA,
             Key::BufferB,
         ],
+        Version::Three => &[
+            Key::A,
+            Key::APort,
+            Key::B,
+            Key::BPort,
+            Key::Buffer,
+            Key::BufferA,
+            Key::BufferB,
+        ],
+    }
+}
+
+/// Those of a flow's reply: `outstanding` is of version 3.
+pub fn reply_keys(version: Version) -> &'static [Key]
+    ensures { result.now ≡ reply_keys version }
+{
+    match version {
+        Version::One => &[Key::Path, Key::Initiator],
+        Version::Two => &[Key::Path, Key::Initiator],
+        Version::Three => &[Key::Path, Key::Initiator, Key::Outstanding],
     }
 }

@@ -1,5 +1,5 @@
-//! What reading a network file comes to, and what the rows of a migrated one are.
-ghost use Rattle.sw_file.specs.Laws.{ReadsEachEntry, RefusesUnknownKeys, NetworksAreReadExactly, ReadNetworksAreValid, ReadNamesAreNames, RowsAreLongest};
+//! What reading a network file comes to, in each version, and what the rows of a migrated one are.
+ghost use Rattle.sw_file.specs.Laws.{ReadsEachEntry, RefusesUnknownKeys, NetworksAreReadExactly, ReadNetworksAreValid, ReadNamesAreNames, VersionTwoIsKept, RowsAreLongest};
 
 /// Each entry of a network that is read is what the table of its number declares.
 pub fn each_entry_is_read()
@@ -27,6 +27,11 @@ pub fn read_networks_are_valid()
 /// its flows, the reply flows too, have one name.
 pub fn read_names_are_names()
     ensures { ReadNamesAreNames }
+{}
+
+/// The document of a network file of version 2 declares the same network with the number 3 as its version.
+pub fn version_two_is_kept()
+    ensures { VersionTwoIsKept }
 {}
 
 /// Rows are the longest.

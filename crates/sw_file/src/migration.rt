@@ -15,7 +15,7 @@ use std::alloc::{AllocError, Global};
 use sw_text::{Version, read_document};
 use toml::Table;
 
-/// Refuses a table that declares no network, or one of a file of version 2.
+/// Refuses a table that declares no network, or one of a file of version 2 or 3.
 fn admit(alloc: Global, table: &Table) -> Result<(), MigrateFault>
     ensures { Admits (table_view table.now) result }
 {
@@ -23,7 +23,7 @@ fn admit(alloc: Global, table: &Table) -> Result<(), MigrateFault>
     network.discard();
     match declared_version(alloc, table)? {
         Version::One => Ok(()),
-        Version::Two => Err(MigrateFault::NotOld),
+        Version::Two | Version::Three => Err(MigrateFault::NotOld),
     }
 }
 
@@ -56,7 +56,7 @@ fn migrated_text(alloc: Global, table: &mut Table) -> Result<Vec<u8>, MigrateFau
 ///
 /// # Errors
 ///
-/// `Text`: the first fault of the text. `NotOld`: it declares a network, but is of version 2. `Memory`: there is no memory for what is
+/// `Text`: the first fault of the text. `NotOld`: it declares a network, but is of version 2 or 3. `Memory`: there is no memory for what is
 /// read and written; this tells nothing of the text.
 pub fn migrate(alloc: Global, bytes: &[u8]) -> Result<Vec<u8>, MigrateFault>
     ensures { Migrates bytes.now result }

@@ -5,11 +5,14 @@ ghost use Rattle.std.specs.Str.{bytes_eq};
 ghost use Rattle.toml.specs.View.{table_view};
 ghost use Rattle.sw_rmap.specs.Config.{IsTargetConfig};
 ghost use Rattle.sw_config.specs.Entries.{part_names};
+ghost use Rattle.sw_config.specs.Valid.{IsOutstanding};
+ghost use Rattle.sw_text.specs.declared.keys.Key.TheVariants.{Outstanding};
 ghost use Rattle.sw_text.specs.Gives.{Gives};
+ghost use Rattle.sw_text.specs.Table.{number_or_none};
 ghost use Rattle.sw_file.specs.Names.{new_name};
 ghost use Rattle.sw_file.specs.Nodes.{target_or_none, next_node};
 
-use crate::keys::{NODE_KEYS, target_keys};
+use crate::keys::{most_slots, node_keys, target_keys};
 use std::alloc::Global;
 use std::marker::Model;
 use sw_config::NetworkBuilder;
@@ -45,7 +48,7 @@ fn target_or_none(
     if start + size > MEMORY_END {
         return Err(target.fault(KeyFault::OutOfRange, Key::Size));
     }
-    let slots = target.number_or(Key::Slots, 1, 8, 1)? as u8;
+    let slots = target.number_or(Key::Slots, 1, most_slots(version), 1)? as u8;
     Ok(Some(TargetConfig {
         logical,
         key,
@@ -53,6 +56,17 @@ fn target_or_none(
         size: size as u32,
         slots,
     }))
+}
+
+/// How many commands of the entry may be unanswered at once, if that is limited.
+pub(crate) fn outstanding_or_none(entry: &TableEntry) -> Result<Option<u16>, FileFault>
+    ensures gives { Gives (λ n. n) result (number_or_none entry.now.section Outstanding 1 65535 (table_view entry.now.table.now)) }
+    ensures valid { IfOk result (λ o. IfSome o IsOutstanding) }
+{
+    match entry.number_or_none(Key::Outstanding, 1, u16::MAX as u64)? {
+        Some(number) => Ok(Some(number as u16)),
+        None => Ok(None),
+    }
 }
 
 /// The name of a node or switch, which none before it has.
@@ -90,9 +104,10 @@ pub(crate) fn add_node(
         section: Section::Node(index),
         table,
     };
-    node.only_known(alloc, NODE_KEYS)?;
+    node.only_known(alloc, node_keys(version))?;
     let name = new_part_name(&node, builder)?;
     let target = target_or_none(alloc, version, index, &node)?;
-    builder.add_node(alloc, name, target)?;
+    let outstanding = outstanding_or_none(&node)?;
+    builder.add_node(alloc, name, target, outstanding)?;
     Ok(())
 }

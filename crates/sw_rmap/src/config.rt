@@ -11,6 +11,6 @@ pub struct TargetConfig {
     pub start: u64,
     /// How many bytes the window has: 1 to 65536; `start + size` is at most 2^40.
     pub size: u32,
-    /// How many replies the target may owe at once: 1 to 8.
+    /// How many replies the target may owe at once: 1 to 64.
     pub slots: u8,
 }

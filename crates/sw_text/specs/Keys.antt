@@ -1,7 +1,7 @@
 -- How the files write their keys (this project's choice).
 use Rattle.std.specs.Prelude.{ℕ, List, codes}
 use Rattle.sw_text.specs.declared.keys.Key.{Key}
-use Rattle.sw_text.specs.declared.keys.Key.TheVariants.{Version as VersionKey, Node, Switch, Link, Flow, Name, Target, Logical, TargetKey, Start, Size, Slots, Arbiter, Route, Address, Last, Ports, Delete, A, APort, B, BPort, Buffer, BufferA, BufferB, From, To, Left, Reply, Path, Initiator, Packet, Cargo, End, Count}
+use Rattle.sw_text.specs.declared.keys.Key.TheVariants.{Version as VersionKey, Node, Switch, Link, Flow, Name, Target, Logical, TargetKey, Start, Size, Slots, Arbiter, Route, Address, Last, Ports, Delete, A, APort, B, BPort, Buffer, BufferA, BufferB, From, To, Left, Reply, Path, Initiator, Outstanding, Packet, Cargo, End, Count}
 
 abbrev pub key_text : Key → List ℕ
 key_text VersionKey = codes "version"
@@ -35,6 +35,7 @@ key_text Left = codes "left"
 key_text Reply = codes "reply"
 key_text Path = codes "path"
 key_text Initiator = codes "initiator"
+key_text Outstanding = codes "outstanding"
 key_text Packet = codes "packet"
 key_text Cargo = codes "cargo"
 key_text End = codes "end"

@@ -121,6 +121,16 @@ number_or s key low high default ms = number_of s key low high default (get_memb
     number_of s k l h n None = Ok n
     number_of s k l h n (Some d) = number_value s k l h d
 
+-- the number from low to high at a key, if anything stands there
+abbrev pub number_or_none : Section → Key → ℕ → ℕ → Members → Result (Option ℕ) TextFault
+number_or_none s key low high ms = number_of s key low high (get_member (key_text key) ms)
+  where
+    number_of : Section → Key → ℕ → ℕ → Option Data → Result (Option ℕ) TextFault
+    number_of s k l h None = Ok None
+    number_of s k l h (Some d) = do
+      n ← number_value s k l h d
+      Ok (Some n)
+
 -- the numbers from 0 to high of a list that has to be there
 abbrev pub numbers_at : Section → Key → ℕ → Members → Result (List ℕ) TextFault
 numbers_at s key high ms = do

@@ -4,7 +4,7 @@ ghost use Rattle.std.specs.Prelude.{◌≡◌};
 /// A key that a network file or a load file may have.
 #[derive(Clone, Copy, Debug, PartialEq, Eq)]
 pub enum Key {
-    /// `version`: of the network file, 1 or 2.
+    /// `version`: of the network file, 1 to 3.
     Version,
     /// `node`: the list of nodes.
     Node,
@@ -26,7 +26,7 @@ pub enum Key {
     Start,
     /// `size`: how many bytes a target's window has, 1 to 65536.
     Size,
-    /// `slots`: how many replies a target may owe at once, 1 to 8 (version 2).
+    /// `slots`: how many replies a target may owe at once, 1 to 8 (version 2) or 1 to 64 (version 3).
     Slots,
     /// `arbiter`: how a switch chooses among inputs, a text.
     Arbiter,
@@ -66,6 +66,8 @@ pub enum Key {
     Path,
     /// `initiator`: the initiator logical address, 32 to 254.
     Initiator,
+    /// `outstanding`: how many commands of a node, or of a flow with replies, may be unanswered at once, 1 to 65535 (version 3).
+    Outstanding,
     /// `packet`: the list of a load's entries.
     Packet,
     /// `cargo`: the bytes behind the flow's address, a text.
@@ -115,6 +117,7 @@ impl Key {
             Key::Reply => "reply",
             Key::Path => "path",
             Key::Initiator => "initiator",
+            Key::Outstanding => "outstanding",
             Key::Packet => "packet",
             Key::Cargo => "cargo",
             Key::End => "end",
@@ -153,4 +156,6 @@ pub enum Version {
     One,
     /// `version = 2`: with `slots`, `last`, `buffer_a` and `buffer_b`.
     Two,
+    /// `version = 3`: with `outstanding` too, and more `slots`.
+    Three,
 }

@@ -1,12 +1,12 @@
 //! Reading of one table, key by key.
-ghost use Rattle.std.specs.Prelude.{◌≡◌, ◌≤◌, All, Err, IsTrue, IfOk, option_map, map};
+ghost use Rattle.std.specs.Prelude.{◌≡◌, ◌≤◌, All, Err, IsTrue, IfOk, IfSome, option_map, map};
 ghost use Rattle.std.specs.List.{list_all};
 ghost use Rattle.toml.specs.Data.{get_member};
 ghost use Rattle.toml.specs.View.{view, table_view};
 ghost use Rattle.sw_text.specs.Gives.{Gives, each};
 ghost use Rattle.sw_text.specs.Keys.{key_text};
 ghost use Rattle.sw_text.specs.Names.{is_name_byte, is_name, name_at};
-ghost use Rattle.sw_text.specs.Table.{is_known, only_known, absent, number_value, numbers_value, text_at, text_or_none, number_at, number_or, numbers_at, numbers_or_none, tables_or_none, table_or_none, flag_or_false};
+ghost use Rattle.sw_text.specs.Table.{is_known, only_known, absent, number_value, numbers_value, text_at, text_or_none, number_at, number_or, number_or_none, numbers_at, numbers_or_none, tables_or_none, table_or_none, flag_or_false};
 
 use crate::fault::{FileFault, KeyFault, TextFault};
 use crate::keys::{Key, Section};
@@ -210,6 +210,21 @@ impl<'a> TableEntry<'a> {
         match self.optional(key) {
             Some(value) => self.number_value(key, low, high, value),
             None => Ok(default),
+        }
+    }
+
+    /// The number from `least` to `most` at a key, if anything stands there.
+    ///
+    /// # Errors
+    ///
+    /// What stands there is no integer, or not from `least` to `most`.
+    pub fn number_or_none(&self, key: Key, least: u64, most: u64) -> Result<Option<u64>, FileFault>
+        ensures gives { Gives (λ n. n) result (number_or_none self.now.section key least most (table_view self.now.table.now)) }
+        ensures within { IfOk result (λ o. IfSome o (λ n. (least ≤ n) × (n ≤ most))) }
+    {
+        match self.optional(key) {
+            Some(value) => Ok(Some(self.number_value(key, least, most, value)?)),
+            None => Ok(None),
         }
     }
 

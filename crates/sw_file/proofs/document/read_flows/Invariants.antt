@@ -6,6 +6,6 @@ use Rattle.sw_file.proofs.document.read_flows.Given as goal
 
 abbrev pub invariant-loop-i : goal.invariant-loop-i
 invariant-loop-i l = record {
-  so_far : walk next_flow l.initial.network (take l.i (map (λ t. table_view t.now) l.table-items)) ≡ Ok l.network;
+  so_far : walk (next_flow l.version) l.initial.network (take l.i (map (λ t. table_view t.now) l.table-items)) ≡ Ok l.network;
   count : length l.network.flows ≡ l.i;
 }
