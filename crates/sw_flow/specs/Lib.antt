@@ -4,6 +4,7 @@ pub mod Followers
 pub mod Faults
 pub mod Numbers
 pub mod Laws
+pub use Rattle.sw_config.specs.Limits
 pub use Rattle.sw_config.specs.Valid
 pub use Rattle.sw_config.specs.Entries
 pub use Rattle.sw_config.specs.Laws as NetworkLaws

@@ -1,19 +1,21 @@
 -- Declared networks are networks of the machine.
-use Rattle.std.proofs.Common.{◌≡◌, ℕ, ◌<◌, ◌≤◌, List, length, length-append, Option, Some, None, refl, ap, ◌∙◌, arith, All}
-use Rattle.std.specs.Prelude.{IfSome}
+use Rattle.std.proofs.Common.{◌≡◌, ℕ, ◌+◌, ◌-◌, ◌<◌, ◌≤◌, false, true, List, length, length-append, Option, Some, None, refl, ap, ◌∙◌, ⊎_elim, arith, All}
+use Rattle.std.specs.Prelude.{IfSome, slice_get}
+use Rattle.std.specs.Option.{option_map_or}
+use Rattle.std.proofs.lemmas.Bool.{cases_lt}
 use Rattle.sw_char.specs.declared.nchar.End.{End}
 use Rattle.sw_rmap.specs.declared.config.TargetConfig.{TargetConfig}
 use Rattle.sw_rmap.specs.Config.{IsTargetConfig}
-use Rattle.sw_flow.specs.Entries.{NodeEntry, Declaration, target_of, wiring_of, look_at, reply_flows, all_flows}
+use Rattle.sw_flow.specs.Entries.{FlowEntry, NodeEntry, Declaration, target_of, wiring_of, look_at, reply_flows, all_flows}
+use Rattle.sw_flow.specs.Limits.{is_limited}
 use Rattle.sw_flow.specs.Valid.{IsNode}
 use Rattle.sw_flow.proofs.Flows.{All-at}
-use Rattle.sw_machine.specs.Limits.{HasNoLimits}
+use Rattle.sw_flow.proofs.FlowLaws.{are_replies}
 use Rattle.sw_machine.specs.Network.{IsReplyFlow, left_bytes}
 use Rattle.sw_rmap.specs.Owing.{PendingReply}
 use Rattle.sw_rmap.specs.Targets.{answer_of, slots_of}
 use Rattle.sw_machine.specs.Model.{network_of, answered_to}
 use Rattle.sw_machine.specs.ModelLaws.{DeclaredNetworksAreNetworks}
-use Rattle.sw_machine.specs.Places.{AlwaysTakes}
 use Rattle.sw_machine.proofs.Answering as replies
 use Rattle.sw_machine.proofs.Flows as flows
 use Rattle.sw_machine.proofs.Topology as topology
@@ -26,7 +28,7 @@ some_slot (Some t) is = let low = is.low_slots in omega arith
 slot : (nodes : List NodeEntry) (n : ℕ) → All IsNode nodes → n < length nodes → 0 < slots_of (target_of nodes n)
 slot nodes n all lt =
     let here = some_at nodes n lt in
-    rw here.1 (some_slot here.0.target (All-at IsNode nodes n here.0 here.1 all))
+    rw here.1 (some_slot here.0.target (All-at IsNode nodes n here.0 here.1 all).target)
 
 reply_flow : (d : Declaration) (i j : ℕ) → (flow_at d i).reply ≡ Some j → IsReplyFlow (network_of d) i j
 unfolding network_of
@@ -46,14 +48,17 @@ replies_end d i j n memory bytes r end has e to =
 more_flows : (d : Declaration) → length d.flows ≤ length (all_flows d)
 more_flows d = omega (arith, length-append d.flows (reply_flows d.flows))
 
--- a declared network has no limits on unanswered commands
-pub no_limits : (d : Declaration) → HasNoLimits (network_of d)
-unfolding network_of
-no_limits d n lt = refl
-
-pub none_always_takes : (d : Declaration) (n : ℕ) → AlwaysTakes (network_of d) n → ⊥
-unfolding network_of
-none_always_takes d n always = let no : None ≡ Some always.limit = always.is in absurd cc
+-- a flow of replies is not limited
+limited_flow : (d : Declaration) (i : ℕ) → option_map_or (is_limited d.nodes) (slice_get (all_flows d) i) false ≡ true → i < length d.flows
+limited_flow d i is = ⊎_elim (λ lt. lt) (λ ge. absurd (later (slice_get (all_flows d) i) refl is ge)) (cases_lt i (length d.flows))
+  where
+    later : (o : Option FlowEntry) → slice_get (all_flows d) i ≡ o → option_map_or (is_limited d.nodes) o false ≡ true → length d.flows ≤ i → ⊥
+    later None here is ge = cc
+    later (Some f) here is ge =
+        let number : length d.flows + (i - length d.flows) ≡ i = omega arith in
+        let reply = are_replies d (i - length d.flows) f (ap (λ (x : ℕ). slice_get (all_flows d) x) number ∙ here) in
+        let none : is_limited d.nodes f ≡ false = rw reply.same refl in
+        cc
 
 pub are_networks : DeclaredNetworksAreNetworks
 unfolding network_of
@@ -71,7 +76,7 @@ are_networks d valid =
       flow_ends = flows.flow_ends d valid;
       reply_flow = λ i j lt. reply_flow d i j;
       no_flow = flows.no_flow d;
-      limited_flow = λ i is. absurd cc;
+      limited_flow = limited_flow d;
       slot = λ n. slot d.nodes n valid.nodes;
       reply_goes = λ n memory bytes end lt. replies.reply_goes (target_of d.nodes n) memory bytes end;
       reply_length = λ n memory bytes r end lt. replies.reply_length (target_of d.nodes n) memory bytes r end;

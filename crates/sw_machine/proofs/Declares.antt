@@ -6,7 +6,7 @@ use Rattle.sw_rmap.specs.declared.config.TargetConfig.{TargetConfig}
 use Rattle.sw_rmap.specs.Replies.{reply_to}
 use Rattle.sw_flow.specs.Entries.{Declaration, FlowEntry, NodeEntry, ReplyEntry, all_flows, reply_flows, target_of}
 use Rattle.sw_flow.proofs.FlowLaws.{follow_in_order}
-use Rattle.sw_machine.specs.DeclaredPackets.{IsDeclaredPacket, IsRightWay, reply_address, reply_from}
+use Rattle.sw_machine.specs.DeclaredPackets.{IsCommandIfLimited, IsDeclaredPacket, IsRightWay, reply_address, reply_from}
 use Rattle.sw_machine.specs.DeclaredPackets as file
 use Rattle.sw_machine.specs.Network.{AnsweredBy, IsDeclared, left_bytes}
 use Rattle.sw_machine.specs.Model.{answered_to, network_of, reply_number}
@@ -69,16 +69,18 @@ module _ (d : Declaration) (f : ℕ) (e : FlowEntry) (at : slice_get d.flows f �
         some_cargo = p.some;
         within = p.few;
         answered = subst (AnsweredBy (network_of d) f) (sym (same_reply cargo)) (answers (reply_from d.nodes e.to (file.left_bytes e ++ cargo)) e.reply refl (rw is at p.answered));
-        command = λ limited. absurd cc;
+        command = λ limited. ap (λ (o : Option (List ℕ)). is_some o) (same_reply cargo) ∙ subst (λ (x : FlowEntry). IsCommandIfLimited d.nodes x cargo) is p.command (rw here at limited);
       }
 
   pub is_packet : (cargo : List ℕ) → IsDeclared (network_of d) f cargo → IsDeclaredPacket d f cargo
+  unfolding network_of
   is_packet cargo p = record {
     entry = e;
     declared = at;
     some = p.some_cargo;
     few = p.within;
     answered = goes_right (reply_from d.nodes e.to (file.left_bytes e ++ cargo)) e.reply refl (subst (AnsweredBy (network_of d) f) (same_reply cargo) p.answered);
+    command = λ limited. sym (ap (λ (o : Option (List ℕ)). is_some o) (same_reply cargo)) ∙ p.command (rw here limited);
   }
 
 declared_flow : (d : Declaration) (f : ℕ) (cargo : List ℕ) → IsDeclared (network_of d) f cargo → f < length d.flows

@@ -1,5 +1,6 @@
 -- The machine's network of a network that a file declares.
 use Rattle.std.specs.Prelude.{ℕ, ◌+◌, List, [], false, length, slice_get, slice_index, Option, Some, None, option_and_then, option_map, unwrap_or}
+use Rattle.std.specs.Option.{option_map_or}
 use Rattle.sw_flow.specs.PlaceEnd.{PlaceEnd}
 use Rattle.sw_flow.specs.PlaceEnd.TheVariants.{Node, Switch}
 use Rattle.sw_flow.specs.Wiring.{out, partner}
@@ -7,6 +8,7 @@ use Rattle.sw_rmap.specs.declared.config.TargetConfig.{TargetConfig}
 use Rattle.sw_rmap.specs.Answers.{answer}
 use Rattle.sw_rmap.specs.Replies.{reply_to}
 use Rattle.sw_flow.specs.Entries.{FlowEntry, Declaration, target_of, look_at, capacities, all_flows}
+use Rattle.sw_flow.specs.Limits.{is_limited, limit_at}
 use Rattle.sw_flow.specs.NetworkLaws.{replies_before}
 use Rattle.sw_flow.specs.Places.{ends_of, end_of}
 use Rattle.sw_flow.specs.Numbers.{outputs}
@@ -49,8 +51,8 @@ network_of d = record {
   reply_to = λ n bytes. answered_to (target_of d.nodes n) bytes;
   answer = λ n memory bytes end. answer_of (target_of d.nodes n) memory bytes end;
   slots = λ n. slots_of (target_of d.nodes n);
-  limited = λ i. false;
-  limit = λ n. None;
+  limited = λ i. option_map_or (is_limited d.nodes) (slice_get (all_flows d) i) false;
+  limit = limit_at d;
   memory_after = λ n memory bytes end. memory_after (target_of d.nodes n) memory bytes end;
   longest = λ n. longest_reply (target_of d.nodes n);
   memory_at_first = λ n. memory_at_first (target_of d.nodes n);

@@ -3,6 +3,7 @@ use Rattle.std.specs.Prelude.{◌≡◌, ◌↔◌, ℕ, ◌<◌, ◌≤◌, Lis
 use Rattle.sw_rmap.specs.declared.config.TargetConfig.{TargetConfig}
 use Rattle.sw_flow.specs.Looks.{NamesOutput}
 use Rattle.sw_flow.specs.Entries.{FlowEntry, Declaration, all_flows, look_at, target_of}
+use Rattle.sw_flow.specs.Limits.{always_takes}
 use Rattle.sw_flow.specs.Valid.{IsValid}
 use Rattle.sw_flow.specs.Places as declared
 use Rattle.sw_flow.specs.Faults as declared_faults
@@ -42,6 +43,10 @@ pub record LookAgrees (d : Declaration) (s byte : ℕ) : Type 0 where
 -- each byte at each switch
 abbrev pub LooksAgree : Type 0
 LooksAgree = (d : Declaration) (s byte : ℕ) → LookAgrees d s byte
+
+-- a node always takes what comes by its declaration exactly where it does in the machine
+abbrev pub AlwaysTakesAgrees : Type 0
+AlwaysTakesAgrees = (d : Declaration) (n : ℕ) → (always_takes d n ≡ true) ↔ machine.AlwaysTakes (network_of d) n
 
 -- in each reached state a target's memory has as many bytes as its window
 abbrev pub MemoriesKeepTheirLength : Type 0

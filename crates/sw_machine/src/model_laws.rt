@@ -1,5 +1,5 @@
 //! What holds of the machine's network of a declared network. These functions do nothing: each is the proof of what its clause says.
-ghost use Rattle.sw_machine.specs.ModelLaws.{DeclaredNetworksAreNetworks, DeclaredPacketsAgree, DeclaredPacketsPass, LooksAgree, MemoriesKeepTheirLength, StepsOfFlowsAgree};
+ghost use Rattle.sw_machine.specs.ModelLaws.{AlwaysTakesAgrees, DeclaredNetworksAreNetworks, DeclaredPacketsAgree, DeclaredPacketsPass, LooksAgree, MemoriesKeepTheirLength, StepsOfFlowsAgree};
 
 /// Each valid network is one of the machine's.
 pub fn declared_networks_are_networks()
@@ -14,6 +14,11 @@ pub fn steps_of_flows_agree()
 /// Each byte, of an address or of a cargo, names the same channels at a switch as by its routes.
 pub fn looks_agree()
     ensures { LooksAgree }
+{}
+
+/// A node always takes what comes by its declaration exactly where it does in the machine.
+pub fn always_takes_agrees()
+    ensures { AlwaysTakesAgrees }
 {}
 
 /// In each state that a declared network reaches, each target's memory has as many bytes as its

@@ -1,6 +1,6 @@
 //! Where the reply to a packet goes, and how many characters it has.
 ghost use Rattle.std.specs.Option.{option_map_or};
-ghost use Rattle.std.specs.Prelude.{◌≡◌, ◌+◌, ◌<◌, ◌≤◌, ◌++◌, ◌∷◌, [], ◌↔◌, IfSome, IsTrue, length, option_map, take};
+ghost use Rattle.std.specs.Prelude.{◌≡◌, ◌+◌, ◌<◌, ◌≤◌, ◌++◌, ◌∷◌, [], ◌↔◌, IfSome, IsTrue, is_some, length, option_map, take};
 ghost use Rattle.sw_flow.specs.Entries.{target_of};
 ghost use Rattle.sw_flow.specs.Valid.{IsFlow};
 ghost use Rattle.sw_machine.specs.Model.{answered_to};
@@ -114,6 +114,15 @@ fn way_length_of(flow: &Flow, cargo: &[u8]) -> Option<u32>
 {
     let bytes = first_bytes(left_bytes(flow), cargo);
     way_length(bytes.as_slice())
+}
+
+/// Whether a packet of the flow is a command that wants a reply.
+pub(crate) fn is_answered(flow: &Flow, cargo: &[u8]) -> bool
+    requires address { length flow.now.address ≤ MAX_ADDRESS }
+    requires left { flow.now.left ≤ length flow.now.address }
+    ensures { result ≡ is_some (reply_to (left_bytes flow.now ++ cargo.now)) }
+{
+    way_length_of(flow, cargo).is_some()
 }
 
 /// How many characters the longest reply to a packet of the flow has; 0 where it gets none.
