@@ -49,7 +49,7 @@ more_flows d = omega (arith, length-append d.flows (reply_flows d.flows))
 -- a declared network has no limits on unanswered commands
 pub no_limits : (d : Declaration) → HasNoLimits (network_of d)
 unfolding network_of
-no_limits d n lt = refl
+no_limits d n = refl
 
 pub none_always_takes : (d : Declaration) (n : ℕ) → AlwaysTakes (network_of d) n → ⊥
 unfolding network_of
