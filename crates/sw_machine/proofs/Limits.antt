@@ -23,7 +23,7 @@ use Rattle.sw_machine.proofs.Runs.{empty_inv, none, reached_of, run_begins}
 use Rattle.sw_machine.proofs.Whole.{comes_out_whole, count_sent, is_left, part_below}
 use Rattle.sw_machine.specs.Begun.{Begun, RunOf, beginning, beginnings}
 use Rattle.sw_machine.specs.Certificate.{Certificate, IsAccepted}
-use Rattle.sw_machine.specs.Limits.{KeepsLimits, OnlyBeginningsRaise, WithoutLimitsAllAreKept, is_command_at, is_command_to, unanswered}
+use Rattle.sw_machine.specs.Limits.{IsWithinLimit, KeepsLimits, KeptAfterEachStep, OnlyBeginningsRaise, WithoutLimitsAllAreKept, is_command_at, is_command_to, unanswered}
 use Rattle.sw_machine.specs.Network.{IsNetwork, Network, left_bytes}
 use Rattle.sw_machine.specs.Owed.{last_beginning}
 use Rattle.sw_machine.specs.Packets.{IsCut, Packet, chars, chars_of, marker_of}
@@ -70,7 +70,7 @@ fewer (p ∷ ps) (q ∷ qs) l e some =
     let r = fewer ps qs l (f.2 ∙ append-nil (chars qs)) some in
     omega arith
 
-some_more : (l : List NChar) (x : NChar) (m : List NChar) → l ++ x ∷ m ≢ []
+some_more : {A : Type 0} (l : List A) (x : A) (m : List A) → l ++ x ∷ m ≢ []
 some_more [] x m e = no_cons x m e
 some_more (y ∷ l) x m e = no_cons y (l ++ x ∷ m) e
 
@@ -93,14 +93,52 @@ front_or_all {A = A} (b ∷ before) after (y ∷ l) x e = ⊎_elim
     is : b ≡ y
     is = cc
 
-run_split : (net : Network) (a b : List Step) (s t : State) → Run net s (a ++ b) t → (m : State) × Run net s a m × Run net m b t
-run_split net [] b s t r = (s, refl, r)
-run_split net (step ∷ a) b s t r = let k = run_split net a b r.0 t r.2 in (k.0, (r.0, r.1, k.1), k.2)
+-- the last of a list with one more
+push_same : {A : Type 0} (xs ys : List A) (x y : A) → xs ++ x ∷ [] ≡ ys ++ y ∷ [] → x ≡ y
+push_same [] [] x y e = cc
+push_same [] (b ∷ ys) x y e = absurd (some_more ys y [] (sym (cons_tail x b [] (ys ++ y ∷ []) e)))
+push_same (a ∷ xs) [] x y e = absurd (some_more xs x [] (cons_tail a y (xs ++ x ∷ []) [] e))
+push_same (a ∷ xs) (b ∷ ys) x y e = push_same xs ys x y (cons_tail a b (xs ++ x ∷ []) (ys ++ y ∷ []) e)
+
+-- ---- steps other than beginnings
+
+no_begin_is : (flow : ℕ) (cargo : List ℕ) (end : End) (step : Step) → is_begin step ≡ false → Begin flow cargo end ≡ step → ⊥
+no_begin_is flow cargo end step none e = let is : is_begin step ≡ true = ap is_begin (sym e) in cc
+
+pub keeps_push : (net : Network) (steps : List Step) (step : Step) → is_begin step ≡ false → KeepsLimits net steps → KeepsLimits net (steps ++ step ∷ [])
+keeps_push net steps step none keeps before after flow cargo end s e r = ⊎_elim
+    (λ whole. absurd (no_begin_is flow cargo end step none (push_same before steps (Begin flow cargo end) step whole)))
+    (λ part. keeps before part.0 flow cargo end s (sym (append_assoc before (Begin flow cargo end ∷ []) part.0) ∙ part.1) r)
+    (front_or_all (before ++ Begin flow cargo end ∷ []) after steps step (append_assoc before (Begin flow cargo end ∷ []) after ∙ e))
+
+pub keeps_more : (net : Network) (steps more : List Step) → count_by is_begin more ≡ 0 → KeepsLimits net steps → KeepsLimits net (steps ++ more)
+keeps_more net steps [] none keeps = subst (KeepsLimits net) (sym (append-nil steps)) keeps
+keeps_more net steps (step ∷ more) none keeps =
+    let c = count_cons is_begin step more in
+    let first = no_begin (is_begin step) refl in
+    subst (KeepsLimits net) (append_assoc steps (step ∷ []) more) (keeps_more net (steps ++ step ∷ []) more (omega arith) (keeps_push net steps step first keeps))
+  where
+    no_begin : (t : Bool) → is_begin step ≡ t → is_begin step ≡ false
+    no_begin false is = is
+    no_begin true is =
+        let c = count_cons is_begin step more in
+        let one : count_by is_begin (step ∷ []) ≡ 1 = rw is refl in
+        absurd (omega arith)
+
+-- a packet more is begun, where the limit of the node where its flow ends is kept
+pub keeps_begin : (net : Network) (steps : List Step) (flow : ℕ) (cargo : List ℕ) (end : End) → KeepsLimits net steps → ((s : State) → Run net (empty net) (steps ++ Begin flow cargo end ∷ []) s → IsWithinLimit net (steps ++ Begin flow cargo end ∷ []) s (net.flow flow).to) → KeepsLimits net (steps ++ Begin flow cargo end ∷ [])
+keeps_begin net steps flow cargo end keeps last before after flow2 cargo2 end2 s e r = ⊎_elim
+    (λ whole.
+    let same : Begin flow2 cargo2 end2 ≡ Begin flow cargo end = push_same before steps (Begin flow2 cargo2 end2) (Begin flow cargo end) whole in
+    let is : flow ≡ flow2 = cc in
+    subst (λ l. IsWithinLimit net l s (net.flow flow2).to) (sym whole) (subst (λ k. IsWithinLimit net (steps ++ Begin flow cargo end ∷ []) s (net.flow k).to) is (last s (subst (λ l. Run net (empty net) l s) whole r))))
+    (λ part. keeps before part.0 flow2 cargo2 end2 s (sym (append_assoc before (Begin flow2 cargo2 end2 ∷ []) part.0) ∙ part.1) r)
+    (front_or_all (before ++ Begin flow2 cargo2 end2 ∷ []) after steps (Begin flow cargo end) (append_assoc before (Begin flow2 cargo2 end2 ∷ []) after ∙ e))
 
 -- ---- without limits
 
 pub all_are_kept : WithoutLimitsAllAreKept
-all_are_kept net free steps before after s e r n limit came ln is out = let no : None ≡ Some limit = sym (free n ln) ∙ is in absurd (cc)
+all_are_kept net free steps before after flow cargo end s e r limit came is out = let no : None ≡ Some limit = sym (free (net.flow flow).to) ∙ is in absurd (cc)
 
 -- ---- what a step changes of what a node took, and of what it owes
 
@@ -245,35 +283,58 @@ module _ (net : Network) (cert : Certificate) (ok : IsNetwork net) (acc : IsAcce
       let most = came_few n ln (steps ++ step ∷ []) t longer now out2 in
       raised n ln (count_by (is_command_to net n) (beginnings steps)) (count_by (is_command_to net n) (beginnings (steps ++ step ∷ []))) s t came now out out2 stay (omega arith) (taking net n s step t (waits_owed net n steps s r) leads)
 
-  keeps_push : (steps : List Step) (step : Step) → is_begin step ≡ false → KeepsLimits net steps → KeepsLimits net (steps ++ step ∷ [])
-  keeps_push steps step none keeps before after u e r n limit now ln is out = ⊎_elim
-      (λ whole.
-      let k = run_split net steps (step ∷ []) (empty net) u (subst (λ l. Run net (empty net) l u) whole r) in
-      let s = k.0 in
-      let last = k.2 in
-      let leads : Leads net s step u = subst (Leads net s step) (sym last.2) last.1 in
+  -- the beginning of a packet to another node changes nothing of what is unanswered here
+  away : (n flow : ℕ) (cargo : List ℕ) (end : End) → ((net.flow flow).to ≡ n → ⊥) → count_by (is_command_to net n) (record { flow = flow; cargo = cargo; end = end } ∷ []) ≡ 0
+  away n flow cargo end ne = rw (ne_eqb (net.flow flow).to n ne) refl
+
+  other_begins : (steps : List Step) (flow : ℕ) (cargo : List ℕ) (end : End) (s t : State) → Leads net s (Begin flow cargo end) t → (n : ℕ) → ((net.flow flow).to ≡ n → ⊥) → IsWithinLimit net steps s n → IsWithinLimit net (steps ++ Begin flow cargo end ∷ []) t n
+  other_begins steps flow cargo end s t leads n ne within limit now is out =
+      let taken : t.taken n ≡ s.taken n = ap (λ (u : State). u.taken n) leads.after in
+      let owed : t.owed n ≡ s.owed n = ap (λ (u : State). u.owed n) leads.after in
       let cut = cut_of (s.taken n) in
       let came : CameOut s n cut.0 = (cut.1, cut.2) in
-      let within = keeps steps [] s (append-nil steps) k.1 n limit cut.0 ln is came in
-      let raise = only_beginnings_raise steps s k.1 step u none leads n ln cut.0 now came out in
-      let same = ap (λ l. unanswered net n l now u) whole in
-      omega arith)
-      (λ part. keeps before part.0 u part.1 r n limit now ln is out)
-      (front_or_all before after steps step e)
+      let before = within limit cut.0 is came in
+      let push = ap (count_by (is_command_to net n)) (beginnings_push steps (Begin flow cargo end)) in
+      let both = count_append (is_command_to net n) (beginnings steps) (beginning (Begin flow cargo end)) in
+      let none = away n flow cargo end ne in
+      let same = ap (count_by (is_command_at net n)) (same_count n s t cut.0 now came out taken) in
+      omega arith
 
-  pub keeps_more : (steps more : List Step) → count_by is_begin more ≡ 0 → KeepsLimits net steps → KeepsLimits net (steps ++ more)
-  keeps_more steps [] none keeps = subst (KeepsLimits net) (sym (append-nil steps)) keeps
-  keeps_more steps (step ∷ more) none keeps =
-      let c = count_cons is_begin step more in
-      let first = no_begin (is_begin step) refl in
-      subst (KeepsLimits net) (append_assoc steps (step ∷ []) more) (keeps_more (steps ++ step ∷ []) more (omega arith) (keeps_push steps step first keeps))
-    where
-      no_begin : (t : Bool) → is_begin step ≡ t → is_begin step ≡ false
-      no_begin false is = is
-      no_begin true is =
-          let c = count_cons is_begin step more in
-          let one : count_by is_begin (step ∷ []) ≡ 1 = rw is refl in
-          absurd (omega arith)
+  others_within : (steps : List Step) (s : State) (step : Step) (t : State) → Run net (empty net) steps s → Leads net s step t → is_begin step ≡ false → (n : ℕ) → n < net.nodes → IsWithinLimit net steps s n → IsWithinLimit net (steps ++ step ∷ []) t n
+  others_within steps s step t r leads none n ln within limit now is out =
+      let cut = cut_of (s.taken n) in
+      let came : CameOut s n cut.0 = (cut.1, cut.2) in
+      let before = within limit cut.0 is came in
+      let raise = only_beginnings_raise steps s r step t none leads n ln cut.0 now came out in
+      omega arith
+
+  -- a step of a run that keeps the limits leaves each node within its limit
+  step_within : (done more : List Step) (s t : State) (step : Step) → KeepsLimits net (done ++ step ∷ more) → Run net (empty net) done s → Leads net s step t → (n : ℕ) → n < net.nodes → IsWithinLimit net done s n → IsWithinLimit net (done ++ step ∷ []) t n
+  step_within done more s t (Begin flow cargo end) keeps r leads n ln within = ⊎_elim
+      (λ to. subst (IsWithinLimit net (done ++ Begin flow cargo end ∷ []) t) to (keeps done more flow cargo end t refl (run_append net done (Begin flow cargo end ∷ []) (empty net) s t r (t, leads, refl))))
+      (λ ne. other_begins done flow cargo end s t leads n ne within)
+      (cases_eq (net.flow flow).to n)
+  step_within done more s t (Fct c) keeps r leads n ln within = others_within done s (Fct c) t r leads refl n ln within
+  step_within done more s t (FctIn c) keeps r leads n ln within = others_within done s (FctIn c) t r leads refl n ln within
+  step_within done more s t (Arrive c) keeps r leads n ln within = others_within done s (Arrive c) t r leads refl n ln within
+  step_within done more s t (Grant d c) keeps r leads n ln within = others_within done s (Grant d c) t r leads refl n ln within
+  step_within done more s t (Drop c) keeps r leads n ln within = others_within done s (Drop c) t r leads refl n ln within
+  step_within done more s t (Forward c) keeps r leads n ln within = others_within done s (Forward c) t r leads refl n ln within
+  step_within done more s t (Spill c) keeps r leads n ln within = others_within done s (Spill c) t r leads refl n ln within
+  step_within done more s t (Emit m) keeps r leads n ln within = others_within done s (Emit m) t r leads refl n ln within
+  step_within done more s t (Accept m) keeps r leads n ln within = others_within done s (Accept m) t r leads refl n ln within
+  step_within done more s t (Reply m) keeps r leads n ln within = others_within done s (Reply m) t r leads refl n ln within
+
+  run_within : (done more : List Step) (s t : State) → KeepsLimits net (done ++ more) → Run net (empty net) done s → Run net s more t → (n : ℕ) → n < net.nodes → IsWithinLimit net done s n → IsWithinLimit net (done ++ more) t n
+  run_within done [] s t keeps r q n ln within = subst (λ l. IsWithinLimit net l t n) (sym (append-nil done)) (subst (λ u. IsWithinLimit net done u n) (sym q) within)
+  run_within done (step ∷ more) s t keeps r q n ln within =
+      let one = step_within done more s q.0 step keeps r q.1 n ln within in
+      let joined = append_assoc done (step ∷ []) more in
+      subst (λ l. IsWithinLimit net l t n) joined
+      (run_within (done ++ step ∷ []) more q.0 t (subst (KeepsLimits net) (sym joined) keeps) (run_append net done (step ∷ []) (empty net) s q.0 r (q.0, q.1, refl)) q.2 n ln one)
+
+  pub kept_after_each_step : KeptAfterEachStep net
+  kept_after_each_step steps s r keeps n ln = run_within [] steps (empty net) s keeps refl r n ln (λ limit came is out. omega arith)
 
   -- ---- a slot is left for what stands in the buffer of a node that always takes
 
@@ -322,7 +383,7 @@ module _ (net : Network) (cert : Certificate) (ok : IsNetwork net) (acc : IsAcce
   have_slots steps s r keeps n ln always x rest front =
       let cut = cut_of (s.taken n) in
       let came : CameOut s n cut.0 = (cut.1, cut.2) in
-      let within = keeps steps [] s (append-nil steps) r n always.limit cut.0 ln always.is came in
+      let within = kept_after_each_step steps s r keeps n ln always.limit cut.0 always.is came in
       ⊎_elim
       (λ fewer. omega arith)
       (λ equal. let same = equal.0 in let more = one_more steps s r n ln equal.1 x rest front cut.0 came in omega arith)

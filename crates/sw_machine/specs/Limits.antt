@@ -1,11 +1,12 @@
 -- Limits on unanswered commands, and the runs that keep them (this project's choice).
 use Rattle.std.specs.Prelude.{Bool, List, None, Some, [], count_by, false, is_some, nat_eq, ℕ, ◌&&◌, ◌++◌, ◌+◌, ◌-◌, ◌<◌, ◌∷◌, ◌≡◌, ◌≤◌}
+use Rattle.sw_char.specs.declared.nchar.End.{End}
 use Rattle.sw_machine.specs.Begun.{Begun, beginnings}
 use Rattle.sw_machine.specs.Network.{Network, left_bytes}
 use Rattle.sw_machine.specs.Packets.{Packet}
 use Rattle.sw_machine.specs.Runs.{CameOut, Run}
 use Rattle.sw_machine.specs.State.{State, empty}
-use Rattle.sw_machine.specs.Steps.{Leads, Step, is_begin}
+use Rattle.sw_machine.specs.Steps.{Begin, Leads, Step, is_begin}
 
 -- a command to node n that is answered there
 abbrev pub is_command_to : Network → ℕ → Begun → Bool
@@ -20,20 +21,20 @@ is_command_at net n p = is_some (net.reply_to n p.bytes)
 abbrev pub unanswered : Network → ℕ → List Step → List Packet → State → ℕ
 unanswered net n steps came s = (count_by (is_command_to net n) (beginnings steps) - count_by (is_command_at net n) came) + s.owed n
 
--- what is unanswered at each node is within its limit
-abbrev pub IsWithinLimits : Network → List Step → State → Type 0
-IsWithinLimits net steps s = (n limit : ℕ) (came : List Packet) → n < net.nodes → net.limit n ≡ Some limit → CameOut s n came → unanswered net n steps came s ≤ limit
+-- after these steps what is unanswered at node n is within its limit, if it has one
+abbrev pub IsWithinLimit : Network → List Step → State → ℕ → Type 0
+IsWithinLimit net steps s n = (limit : ℕ) (came : List Packet) → net.limit n ≡ Some limit → CameOut s n came → unanswered net n steps came s ≤ limit
 
--- it is so after each of the steps
+-- each packet is begun only where what is then unanswered at the node where its flow ends, itself counted, is within that node's limit
 abbrev pub KeepsLimits : Network → List Step → Type 0
-KeepsLimits net steps = (before after : List Step) (s : State) → before ++ after ≡ steps → Run net (empty net) before s → IsWithinLimits net before s
+KeepsLimits net steps = (before after : List Step) (flow : ℕ) (cargo : List ℕ) (end : End) (s : State) → before ++ Begin flow cargo end ∷ after ≡ steps → Run net (empty net) (before ++ Begin flow cargo end ∷ []) s → IsWithinLimit net (before ++ Begin flow cargo end ∷ []) s (net.flow flow).to
 
 -- a run that keeps the limits leads there
 abbrev pub IsReachedWithinLimits : Network → State → Type 0
 IsReachedWithinLimits net s = (steps : List Step) × Run net (empty net) steps s × KeepsLimits net steps
 
 abbrev pub HasNoLimits : Network → Type 0
-HasNoLimits net = (n : ℕ) → n < net.nodes → net.limit n ≡ None
+HasNoLimits net = (n : ℕ) → net.limit n ≡ None
 
 -- without limits each run keeps them
 abbrev pub WithoutLimitsAllAreKept : Type 0
@@ -42,3 +43,7 @@ WithoutLimitsAllAreKept = (net : Network) → HasNoLimits net → (steps : List 
 -- no step but a beginning raises what is unanswered
 abbrev pub OnlyBeginningsRaise : Network → Type 0
 OnlyBeginningsRaise net = (steps : List Step) (s : State) → Run net (empty net) steps s → (step : Step) (t : State) → is_begin step ≡ false → Leads net s step t → (n : ℕ) → n < net.nodes → (came now : List Packet) → CameOut s n came → CameOut t n now → unanswered net n (steps ++ step ∷ []) now t ≤ unanswered net n steps came s
+
+-- so after each step of a run that keeps the limits what is unanswered at each node is within its limit
+abbrev pub KeptAfterEachStep : Network → Type 0
+KeptAfterEachStep net = (steps : List Step) (s : State) → Run net (empty net) steps s → KeepsLimits net steps → (n : ℕ) → n < net.nodes → IsWithinLimit net steps s n

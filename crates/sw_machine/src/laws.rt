@@ -11,7 +11,7 @@ ghost use Rattle.std.specs.Prelude.{◌<◌, ◌≤◌, ◌∷◌, [], None, Opt
 ghost use Rattle.sw_machine.specs.Begun.{AllComesOut, AllIsAnswered, ComesOutWhole, EachRunIsCounted, IsBounded, IsBoundedByLoad, RepliesAreAsked};
 ghost use Rattle.sw_machine.specs.DeadlockFreedom.{AcceptedIsDeadlockFree, AcceptedIsDeadlockFreeWithinLimits, AlwaysGoesOn, AlwaysGoesOnWithinLimits, EndsEmpty, EndsEmptyWithinLimits, IsNeverLockedUp, IsNeverLockedUpWithinLimits, NothingIsDropped, OfAccepted, OfAcceptedWithoutLimits, QuietIsEmpty, QuietIsEmptyWithinLimits};
 ghost use Rattle.sw_machine.specs.LimitSamples.{LocksUp, detour, detour_certificate, detour_steps, duel, duel_certificate, duel_steps};
-ghost use Rattle.sw_machine.specs.Limits.{OnlyBeginningsRaise, WithoutLimitsAllAreKept};
+ghost use Rattle.sw_machine.specs.Limits.{KeptAfterEachStep, OnlyBeginningsRaise, WithoutLimitsAllAreKept};
 ghost use Rattle.sw_machine.specs.OneSlot.{OneSlotIsOneReply};
 ghost use Rattle.sw_machine.specs.Owed.{EmitSettles, NodesOweReplies, OnlyAskedOwe};
 ghost use Rattle.sw_machine.specs.Parts.{LinkEndsAreAtCells, OutputsAreHeldOnce, StepsAreLocal, StepsChangeOneCell};
@@ -81,10 +81,12 @@ pub fn accepted_is_never_locked_up()
     ensures quiet { OfAcceptedWithoutLimits QuietIsEmpty }
 {}
 
-/// Where no node has a limit on unanswered commands each run keeps the limits. In an accepted network only the
-/// beginning of a packet raises what is unanswered at a node.
+/// Where no node has a limit on unanswered commands each run keeps the limits. In an accepted network what is
+/// unanswered at a node is within its limit after each step of a run that keeps them, and only the beginning of a
+/// packet raises it.
 pub fn limits_are_kept()
     ensures without_limits { WithoutLimitsAllAreKept }
+    ensures throughout { OfAccepted KeptAfterEachStep }
     ensures raised { OfAccepted OnlyBeginningsRaise }
 {}
 
