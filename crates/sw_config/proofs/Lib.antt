@@ -9,6 +9,7 @@ mod Answering
 pub mod AnsweringNodes
 mod LimitSums
 mod LimitRows
+pub mod Limits
 pub use Rattle.sw_route.proofs.PortBits
 pub use Rattle.sw_route.proofs.PortWalk
 pub use Rattle.sw_route.proofs.Ends

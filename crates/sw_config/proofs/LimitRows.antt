@@ -1,19 +1,21 @@
 -- What a network keeps for its limits, with one flow more.
-use Rattle.std.proofs.Common.{◌≡◌, ◌≢◌, ℕ, ◌+◌, ◌*◌, ◌<◌, ◌≤◌, ◌==◌, ◌&&◌, ◌||◌, Bool, true, false, not, cond, List, [], ◌∷◌, ◌++◌, length, map, filter, set, get_or, Option, Some, None, is_some, refl, sym, subst, ap, ◌∙◌, inl, inr, arith, length-append, length-set, get_or-set_same, get_or-set_other}
-use Rattle.std.specs.Prelude.{IfSome, nat_eq, option_and_then, unwrap_or, if◌then◌else◌}
+use Rattle.std.proofs.Common.{◌≡◌, ◌≢◌, ℕ, zero, suc, ◌+◌, ◌*◌, ◌<◌, ◌≤◌, ◌==◌, ◌&&◌, ◌||◌, Bool, true, false, not, cond, List, [], ◌∷◌, ◌++◌, length, map, filter, replicate, set, get_or, All, Option, Some, None, is_some, refl, sym, subst, ap, ◌∙◌, inl, inr, arith, length-append, length-set, get_or-set_same, get_or-set_other}
+use Rattle.std.specs.Prelude.{IfSome, min, nat_eq, option_and_then, slice_get, unwrap_or, if◌then◌else◌}
 use Rattle.std.specs.List.{list_any, range_with_len}
 use Rattle.std.proofs.Math.Bool.{or-false}
-use Rattle.std.proofs.lemmas.Bool.{cases_eq, eq-eqb, false≢true, ne_eqb, or_right}
-use Rattle.std.proofs.lemmas.List.{map-append, append-nil}
+use Rattle.std.proofs.Math.Nat.{min-le_right}
+use Rattle.std.proofs.lemmas.Bool.{cases_eq, cases_lt, eq-eqb, false≢true, ne_eqb, or_right}
+use Rattle.std.proofs.lemmas.List.{map-append, append-nil, get_or-replicate, get_or_past, length-replicate}
 use Rattle.std.proofs.lemmas.List.Elements.{filter-append}
 use Rattle.std.proofs.lemmas.List.Folds.{list_any-append}
 use Rattle.std.specs.Map.{lookup}
 use Rattle.indexmap.specs.IndexMap.{insert_entry}
 use Rattle.sw_config.specs.Entries.{NodeEntry, ReplyEntry, FlowEntry, Declaration, all_flows, reply_flow, replies_of, reply_flows, is_answered_at, is_answering}
 use Rattle.sw_config.specs.Limits.{lesser, sum_of_limits, outstanding_of, flow_outstanding, commands_from, limit_from}
-use Rattle.sw_config.specs.LimitRows.{LimitRows, plus, growth, pair_key, sum_between, total_after, sums_after, with_reply, with_flow, AreSmall, total_at, ends_unanswered, AreLimits}
-use Rattle.sw_config.proofs.Flows.{reply_flows-push}
-use Rattle.sw_config.proofs.LimitSums.{plus-none, sum_push, SplitAt, split_at, rises, small_growth, small_plus, small_still, sum_inserted, sum_kept, other_end, other_start}
+use Rattle.sw_config.specs.LimitRows.{LimitRows, plus, growth, pair_key, sum_between, total_after, sums_after, no_limits, with_reply, with_flow, AreSmall, total_at, ends_unanswered, AreLimits}
+use Rattle.sw_config.specs.Valid.{IsOutstanding, IsNode, IsReply, IsFlow}
+use Rattle.sw_config.proofs.Flows.{All-at, reply_flows-push}
+use Rattle.sw_config.proofs.LimitSums.{plus-none, some_before, sum_push, SplitAt, split_at, rises, small_growth, small_plus, small_still, sum_inserted, sum_kept, other_end, other_start}
 
 -- ---- marks
 
@@ -107,10 +109,6 @@ plain_end false = refl
 reply_end : (b c : Bool) → (b && false || (c && true || false)) ≡ c
 reply_end true c = plain_end c
 reply_end false c = plain_end c
-
-some_before : (a b : Option ℕ) → is_some (plus a b) ≡ true → is_some a ≡ true
-some_before None b some = some
-some_before (Some l) b some = refl
 
 -- where there is no limit, no sum counts
 same_where : (own total sum other outstanding : Option ℕ) → (is_some total ≡ true → sum ≡ other)
@@ -266,3 +264,65 @@ module _ (d : Declaration) (f : FlowEntry) (t : LimitRows) (a : AreLimits d t) (
       sums = λ m n. sum_at (is_some total) m n refl;
       small = small_more (with_reply t own f.from f.to (Some r)) (record { totals = small_total; sums = small_sum (is_some total) });
     }
+
+-- ---- of a valid flow
+
+own_small : (nodes : List NodeEntry) (n : ℕ) → All IsNode nodes → IfSome (outstanding_of nodes n) (λ l. l ≤ 65535)
+own_small nodes n all = by (slice_get nodes n) refl
+  where
+    high : (o : Option ℕ) → IfSome o IsOutstanding → IfSome o (λ l. l ≤ 65535)
+    high None is = tt
+    high (Some l) is = is.high
+    by : (o : Option NodeEntry) → slice_get nodes n ≡ o → IfSome (option_and_then (λ (e : NodeEntry). e.outstanding) o) (λ l. l ≤ 65535)
+    by None at = tt
+    by (Some e) at = high e.outstanding (All-at IsNode nodes n e at all).outstanding
+
+reply_small : (nodes : List NodeEntry) (f : FlowEntry) (r : ReplyEntry) → f.reply ≡ Some r → IsFlow nodes f → IfSome r.outstanding (λ l. l ≤ 65535)
+reply_small nodes f r has ok =
+    let reply : IsReply nodes f.to r = subst (λ o. IfSome o (IsReply nodes f.to)) has ok.reply in high r.outstanding reply.outstanding
+  where
+    high : (o : Option ℕ) → IfSome o IsOutstanding → IfSome o (λ l. l ≤ 65535)
+    high None is = tt
+    high (Some l) is = is.high
+
+-- the rows with a flow more are those of the declaration with a flow more
+pub limits_more : (d : Declaration) (f : FlowEntry) (t : LimitRows) (limit : Option ℕ) → AreLimits d t → All IsNode d.nodes → IsFlow d.nodes f
+    → limit ≡ outstanding_of d.nodes f.from → AreLimits (record d { flows = d.flows ++ f ∷ [] }) (with_flow t limit f)
+limits_more d f t limit a nodes ok is = subst (λ o. AreLimits (More d f) (with_flow t o f)) (sym is) (by f.reply refl)
+  where
+    by : (r : Option ReplyEntry) → f.reply ≡ r → AreLimits (More d f) (with_reply t (outstanding_of d.nodes f.from) f.from f.to r)
+    by None none = unanswered_more d f t a ok.from ok.to none
+    by (Some r) has = answered_more d f t a ok.from ok.to r has (own_small d.nodes f.from nodes) (reply_small d.nodes f r has ok)
+
+-- ---- of no flow
+
+no_commands : (own : Option ℕ) → lesser own (Some 0) ≡ Some 0
+no_commands None = refl
+no_commands (Some l) = let e : min l 0 ≡ 0 = omega (arith, min-le_right l 0) in ap Some e
+
+sum_zeros : (g : ℕ → Option ℕ) → ((k : ℕ) → g k ≡ Some 0) → (a n : ℕ) → sum_of_limits (map g (range_with_len a n)) ≡ Some 0
+sum_zeros g zeros a zero = refl
+sum_zeros g zeros a (suc n) =
+    ap (λ l. sum_of_limits (l ∷ map g (range_with_len (a + 1) n))) (zeros a) ∙ ap (λ s. plus (Some 0) s) (sum_zeros g zeros (a + 1) n)
+
+pub no_limits_yet : (d : Declaration) (n : ℕ) → n ≡ length d.nodes → length d.nodes ≤ 1024 → d.flows ≡ [] → AreLimits d (no_limits n)
+no_limits_yet d n size few none = subst (λ k. AreLimits d (no_limits k)) (sym size) (subst (λ fs. AreLimits (record d { flows = fs }) (no_limits (length d.nodes))) (sym none) (record {
+  few_nodes = few;
+  answering_size = length-replicate (length d.nodes) false;
+  others_size = length-replicate (length d.nodes) false;
+  totals_size = length-replicate (length d.nodes) (Some 0);
+  answering = λ k lt. get_or-replicate (length d.nodes) k false false lt;
+  others = λ k lt. get_or-replicate (length d.nodes) k false false lt;
+  totals = λ k lt. get_or-replicate (length d.nodes) k (Some 0) None lt
+      ∙ sym (sum_zeros (limit_from (record d { flows = [] }) k) (λ m. no_commands (outstanding_of d.nodes m)) 0 (length d.nodes));
+  sums = λ m k m_lt k_lt some. refl;
+  small = record { totals = λ k. zero_small k; sums = λ m k. omega arith };
+}))
+  where
+    zero_small : (k : ℕ) → IfSome (get_or (replicate (length d.nodes) (Some 0)) k None) (λ l. l ≤ 0 * 65535)
+    zero_small k = elim (cases_lt k (length d.nodes)) [
+      | inl lt ↦ subst (λ o. IfSome o (λ l. l ≤ 0 * 65535)) (sym (get_or-replicate (length d.nodes) k (Some 0) None lt)) (omega arith)
+      | inr past ↦
+          let size : length (replicate (length d.nodes) (Some 0)) ≡ length d.nodes = length-replicate {A = Option ℕ} (length d.nodes) (Some 0) in
+          subst (λ o. IfSome o (λ l. l ≤ 0 * 65535)) (sym (get_or_past (replicate (length d.nodes) (Some 0)) k None (omega (arith, past, size)))) tt
+    ]

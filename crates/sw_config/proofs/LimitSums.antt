@@ -36,9 +36,19 @@ plus-swap (Some k) None c = refl
 plus-swap (Some k) (Some l) None = refl
 plus-swap (Some k) (Some l) (Some n) = let e : k + (l + n) ≡ l + (k + n) = omega arith in ap Some e
 
+-- both are limits where the two together are
+pub some_before : (a b : Option ℕ) → is_some (plus a b) ≡ true → is_some a ≡ true
+some_before None b some = some
+some_before (Some l) b some = refl
+
+pub some_after : (a b : Option ℕ) → is_some (plus a b) ≡ true → is_some b ≡ true
+some_after None b some = absurd (false≢true some)
+some_after (Some l) None some = absurd (false≢true some)
+some_after (Some l) (Some k) some = refl
+
 -- ---- sums
 
-sum_cons : (l : Option ℕ) (ls : List (Option ℕ)) → sum_of_limits (l ∷ ls) ≡ plus l (sum_of_limits ls)
+pub sum_cons : (l : Option ℕ) (ls : List (Option ℕ)) → sum_of_limits (l ∷ ls) ≡ plus l (sum_of_limits ls)
 sum_cons None ls = refl
 sum_cons (Some l) ls = refl
 
