@@ -1,5 +1,5 @@
 -- A network of version 2 is one of version 3 by its number alone.
-use Rattle.std.proofs.Common.{◌≡◌, false, pos, [], length, nat_cmp, Ok, refl, sym, ◌∙◌, arith, inl, inr, subst}
+use Rattle.std.proofs.Common.{◌≡◌, false, pos, [], length, nat_cmp, refl, sym, ◌∙◌, arith, inl, inr, subst}
 use Rattle.std.specs.Ordering.{is_eq}
 use Rattle.std.specs.Cmp.Lexicographic.{slice_cmp}
 use Rattle.toml.specs.Data.{Data, integer, Members, get_member}
@@ -9,8 +9,7 @@ use Rattle.sw_text.specs.declared.keys.Key.TheVariants.{Version as VersionKey, N
 use Rattle.sw_text.specs.declared.keys.Version.TheVariants.{Two, Three}
 use Rattle.sw_text.specs.Keys.{key_text}
 use Rattle.sw_file.specs.Keys.{document_keys}
-use Rattle.sw_file.specs.Network.{version_of, network_of}
-use Rattle.sw_file.specs.Values.{Has, HasOr}
+use Rattle.sw_file.specs.Values.{HasOr}
 use Rattle.sw_file.specs.Tables.{IsNodeTable, IsSwitchTable, IsLinkTable, IsFlowTable, IsNetworkTable}
 use Rattle.sw_file.specs.Laws.{as_version_three, VersionTwoIsKept}
 use Rattle.sw_file.proofs.PutMembers.{get_other, get_same, only_put}

@@ -25,8 +25,7 @@ pub fn node_keys(version: Version) -> &'static [Key]
     ensures { result.now ≡ node_keys version }
 {
     match version {
-        Version::One => &[Key::Name, Key::Target],
-        Version::Two => &[Key::Name, Key::Target],
+        Version::One | Version::Two => &[Key::Name, Key::Target],
         Version::Three => &[Key::Name, Key::Target, Key::Outstanding],
     }
 }
@@ -37,14 +36,7 @@ pub fn target_keys(version: Version) -> &'static [Key]
 {
     match version {
         Version::One => &[Key::Logical, Key::TargetKey, Key::Start, Key::Size],
-        Version::Two => &[
-            Key::Logical,
-            Key::TargetKey,
-            Key::Start,
-            Key::Size,
-            Key::Slots,
-        ],
-        Version::Three => &[
+        Version::Two | Version::Three => &[
             Key::Logical,
             Key::TargetKey,
             Key::Start,
@@ -59,8 +51,7 @@ pub fn most_slots(version: Version) -> u64
     ensures { result ≡ most_slots version }
 {
     match version {
-        Version::One => 8,
-        Version::Two => 8,
+        Version::One | Version::Two => 8,
         Version::Three => 64,
     }
 }
@@ -71,8 +62,7 @@ pub fn route_keys(version: Version) -> &'static [Key]
 {
     match version {
         Version::One => &[Key::Address, Key::Ports, Key::Delete],
-        Version::Two => &[Key::Address, Key::Last, Key::Ports, Key::Delete],
-        Version::Three => &[Key::Address, Key::Last, Key::Ports, Key::Delete],
+        Version::Two | Version::Three => &[Key::Address, Key::Last, Key::Ports, Key::Delete],
     }
 }
 
@@ -82,16 +72,7 @@ pub fn link_keys(version: Version) -> &'static [Key]
 {
     match version {
         Version::One => &[Key::A, Key::APort, Key::B, Key::BPort, Key::Buffer],
-        Version::Two => &[
-            Key::A,
-            Key::APort,
-            Key::B,
-            Key::BPort,
-            Key::Buffer,
-            Key::BufferA,
-            Key::BufferB,
-        ],
-        Version::Three => &[
+        Version::Two | Version::Three => &[
             Key::A,
             Key::APort,
             Key::B,
@@ -108,8 +89,7 @@ pub fn reply_keys(version: Version) -> &'static [Key]
     ensures { result.now ≡ reply_keys version }
 {
     match version {
-        Version::One => &[Key::Path, Key::Initiator],
-        Version::Two => &[Key::Path, Key::Initiator],
+        Version::One | Version::Two => &[Key::Path, Key::Initiator],
         Version::Three => &[Key::Path, Key::Initiator, Key::Outstanding],
     }
 }
