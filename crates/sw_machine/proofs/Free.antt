@@ -7,7 +7,7 @@ use Rattle.sw_machine.proofs.Bound.{is_bounded}
 use Rattle.sw_machine.proofs.Load.{is_bounded_by_load}
 use Rattle.sw_machine.proofs.RunLists.{all_moves, cost, run_of, run_of_append}
 use Rattle.sw_machine.proofs.Ghost.{InputIs}
-use Rattle.sw_machine.proofs.Limits.{all_are_kept, have_slots, keeps_more, kept_after_each_step, only_beginnings_raise}
+use Rattle.sw_machine.proofs.Limits.{all_are_kept, have_slots, keeps_more}
 use Rattle.sw_machine.proofs.Runs.{empty_inv, goes_on_where, never_drops, none, reached_inv, run_begins}
 use Rattle.sw_machine.proofs.Whole.{all_comes_out, comes_out_whole}
 use Rattle.sw_machine.specs.Certificate.{Certificate, IsAccepted, IsListed, number}
@@ -77,8 +77,6 @@ module _ (net : Network) (cert : Certificate) (ok : IsNetwork net) (acc : IsAcce
     replies_are_asked = λ steps begun s r n ln test. replies_at_most net ok n ln test steps begun s r (λ ps out. comes_out_whole net cert ok acc steps begun s r n ln ps out);
     all_is_answered = λ steps begun s r none n ln test. replies_exactly net ok n ln test steps begun s r none (λ ps out. all_comes_out net cert ok acc steps begun s r none n ln ps out);
     only_asked_owe = λ s r n ln owes. let k = reached_inv net cert ok acc s r in (k.1.nodes n ln).asked owes;
-    kept_after_each_step = kept_after_each_step net cert ok acc;
-    only_beginnings_raise = only_beginnings_raise net cert ok acc;
     bounded = is_bounded net cert ok acc;
     bounded_by_load = is_bounded_by_load net cert ok acc (λ begun steps s r n ln test. replies_at_most net ok n ln test steps begun s r (λ ps out. comes_out_whole net cert ok acc steps begun s r n ln ps out));
     ends_empty = ends;

@@ -23,7 +23,7 @@ use Rattle.sw_machine.proofs.Runs.{empty_inv, none, reached_of, run_begins}
 use Rattle.sw_machine.proofs.Whole.{comes_out_whole, count_sent, is_left, part_below}
 use Rattle.sw_machine.specs.Begun.{Begun, RunOf, beginning, beginnings}
 use Rattle.sw_machine.specs.Certificate.{Certificate, IsAccepted}
-use Rattle.sw_machine.specs.Limits.{IsWithinLimit, KeepsLimits, KeptAfterEachStep, OnlyBeginningsRaise, WithoutLimitsAllAreKept, is_command_at, is_command_to, unanswered}
+use Rattle.sw_machine.specs.Limits.{IsWithinLimit, KeepsLimits, WithoutLimitsAllAreKept, is_command_at, is_command_to, unanswered}
 use Rattle.sw_machine.specs.Network.{IsNetwork, Network, left_bytes}
 use Rattle.sw_machine.specs.Owed.{last_beginning}
 use Rattle.sw_machine.specs.Packets.{IsCut, Packet, chars, chars_of, marker_of}
@@ -221,36 +221,7 @@ beginnings_push steps step = flat_map-append beginning steps (step ∷ []) ∙ a
 beginnings_stay : (steps : List Step) (step : Step) → is_begin step ≡ false → beginnings (steps ++ step ∷ []) ≡ beginnings steps
 beginnings_stay steps step e = beginnings_push steps step ∙ ap (λ l. beginnings steps ++ l) (no_beginning step e) ∙ append-nil (beginnings steps)
 
-module _ (net : Network) (cert : Certificate) (ok : IsNetwork net) (acc : IsAccepted net cert) where
-  -- a packet that is a reply is no command, so each command was begun by a beginning
-  not_a_reply : (n : ℕ) (b : Begun) → Short net cert ok acc b → (if is_command_to net n b then 1 else 0) ≤ of_beginning net (λ b. if is_command_to net n b then 1 else 0) b
-  not_a_reply n b short = ⊎_elim
-      (λ lt. rw (lt-ltb b.flow net.declared_flows lt) (omega arith))
-      (λ ge. rw (le-ltb b.flow net.declared_flows ge) (⊎_elim
-      (λ to.
-      let none : net.reply_to n (left_bytes net b.flow b.cargo) ≡ None = subst (λ k. net.reply_to k (left_bytes net b.flow b.cargo) ≡ None) to (short ge).unanswered in
-      rw (eq-eqb (net.flow b.flow).to n to, none) (omega arith))
-      (λ away. rw (ne_eqb (net.flow b.flow).to n away) (omega arith))
-      (cases_eq (net.flow b.flow).to n)))
-      (cases_lt b.flow net.declared_flows)
-
-  pub commands_are_begun : (n : ℕ) (steps : List Step) (begun : List Begun) (s : State) → RunOf net (empty net) steps begun s → count_by (is_command_to net n) begun ≤ count_by (is_command_to net n) (beginnings steps)
-  commands_are_begun n steps begun s r =
-      let one : Begun → ℕ = λ b. if is_command_to net n b then 1 else 0 in
-      let short = run_short net cert ok acc steps (empty net) (none net cert ok acc) s begun r (empty_inv net cert ok acc) in
-      let few = sum_le_all one (of_beginning net one) begun (all_map (Short net cert ok acc) (λ b. one b ≤ of_beginning net one b) begun (not_a_reply n) short) in
-      let sum = run_sum net ok one steps (empty net) s begun r in
-      omega arith
-
-  -- no more commands came out than were begun
-  came_few : (n : ℕ) → n < net.nodes → (steps : List Step) (s : State) → Run net (empty net) steps s → (came : List Packet) → CameOut s n came → count_by (is_command_at net n) came ≤ count_by (is_command_to net n) (beginnings steps)
-  came_few n ln steps s r came out =
-      let b = run_begins net cert ok acc steps (empty net) (none net cert ok acc) s r (empty_inv net cert ok acc) in
-      let whole = comes_out_whole net cert ok acc steps b.0 s b.1 n ln came out (is_command_at net n) in
-      let sent = count_sent net n (is_command_at net n) b.0 in
-      let begun = commands_are_begun n steps b.0 s b.1 in
-      omega arith
-
+module _ (net : Network) (ok : IsNetwork net) where
   same_count : (n : ℕ) (s t : State) (came now : List Packet) → CameOut s n came → CameOut t n now → t.taken n ≡ s.taken n → now ≡ came
   same_count n s t came now out out2 e = (cuts_are_equal (s.taken n) now came out2.0 out.0 (sym e ∙ out2.1) out.1).0
 
@@ -258,14 +229,14 @@ module _ (net : Network) (cert : Certificate) (ok : IsNetwork net) (acc : IsAcce
   owes_more n p owed None e = let c = ap (λ o. owed + (if is_some o then 1 else 0)) e in omega arith
   owes_more n p owed (Some r) e = ap (λ o. owed + (if is_some o then 1 else 0)) e
 
-  raised : (n : ℕ) → n < net.nodes → (begun few : ℕ) (s t : State) (came now : List Packet) → CameOut s n came → CameOut t n now → few ≡ begun → count_by (is_command_at net n) now ≤ begun → Taking net n (s.taken n) (s.owed n) (t.taken n) (t.owed n) → (few - count_by (is_command_at net n) now) + t.owed n ≤ (begun - count_by (is_command_at net n) came) + s.owed n
-  raised n ln begun few s t came now out out2 is most (Nothing taken owed) = let c = ap (count_by (is_command_at net n)) (same_count n s t came now out out2 taken) in omega arith
-  raised n ln begun few s t came now out out2 is most (Byte b taken owed) =
+  raised : (n : ℕ) → n < net.nodes → (begun few : ℕ) (s t : State) (came now : List Packet) → CameOut s n came → CameOut t n now → few ≡ begun → Taking net n (s.taken n) (s.owed n) (t.taken n) (t.owed n) → (few + t.owed n) - count_by (is_command_at net n) now ≤ (begun + s.owed n) - count_by (is_command_at net n) came
+  raised n ln begun few s t came now out out2 is (Nothing taken owed) = let c = ap (count_by (is_command_at net n)) (same_count n s t came now out out2 taken) in omega arith
+  raised n ln begun few s t came now out out2 is (Byte b taken owed) =
       let cut = cut_byte (s.taken n) came out.0 b out.1 in
       let equal = (cuts_are_equal (s.taken n ++ Data b ∷ []) now came out2.0 (out.0 ++ b ∷ []) (sym taken ∙ out2.1) cut).0 in
       let c = ap (count_by (is_command_at net n)) equal in
       omega arith
-  raised n ln begun few s t came now out out2 is most (Ends ps memory bytes end cut taken owed) =
+  raised n ln begun few s t came now out out2 is (Ends ps memory bytes end cut taken owed) =
       let p : Packet = record { bytes = bytes; end = end } in
       let more = cut_marker (s.taken n) ps bytes end cut in
       let equal = (cuts_are_equal (s.taken n ++ marker_of end ∷ []) now (ps ++ p ∷ []) out2.0 [] (sym taken ∙ out2.1) more).0 in
@@ -276,12 +247,10 @@ module _ (net : Network) (cert : Certificate) (ok : IsNetwork net) (acc : IsAcce
       let o = owes_more n p (s.owed n) (net.answer n memory bytes end) (ok.reply_goes n memory bytes end ln) in
       omega arith
 
-  pub only_beginnings_raise : OnlyBeginningsRaise net
+  pub only_beginnings_raise : (steps : List Step) (s : State) → Run net (empty net) steps s → (step : Step) (t : State) → is_begin step ≡ false → Leads net s step t → (n : ℕ) → n < net.nodes → (came now : List Packet) → CameOut s n came → CameOut t n now → unanswered net n (steps ++ step ∷ []) now t ≤ unanswered net n steps came s
   only_beginnings_raise steps s r step t none leads n ln came now out out2 =
       let stay = ap (count_by (is_command_to net n)) (beginnings_stay steps step none) in
-      let longer = run_append net steps (step ∷ []) (empty net) s t r (t, leads, refl) in
-      let most = came_few n ln (steps ++ step ∷ []) t longer now out2 in
-      raised n ln (count_by (is_command_to net n) (beginnings steps)) (count_by (is_command_to net n) (beginnings (steps ++ step ∷ []))) s t came now out out2 stay (omega arith) (taking net n s step t (waits_owed net n steps s r) leads)
+      raised n ln (count_by (is_command_to net n) (beginnings steps)) (count_by (is_command_to net n) (beginnings (steps ++ step ∷ []))) s t came now out out2 stay (taking net n s step t (waits_owed net n steps s r) leads)
 
   -- the beginning of a packet to another node changes nothing of what is unanswered here
   away : (n flow : ℕ) (cargo : List ℕ) (end : End) → ((net.flow flow).to ≡ n → ⊥) → count_by (is_command_to net n) (record { flow = flow; cargo = cargo; end = end } ∷ []) ≡ 0
@@ -333,8 +302,38 @@ module _ (net : Network) (cert : Certificate) (ok : IsNetwork net) (acc : IsAcce
       subst (λ l. IsWithinLimit net l t n) joined
       (run_within (done ++ step ∷ []) more q.0 t (subst (KeepsLimits net) (sym joined) keeps) (run_append net done (step ∷ []) (empty net) s q.0 r (q.0, q.1, refl)) q.2 n ln one)
 
-  pub kept_after_each_step : KeptAfterEachStep net
+  pub kept_after_each_step : (steps : List Step) (s : State) → Run net (empty net) steps s → KeepsLimits net steps → (n : ℕ) → n < net.nodes → IsWithinLimit net steps s n
   kept_after_each_step steps s r keeps n ln = run_within [] steps (empty net) s keeps refl r n ln (λ limit came is out. omega arith)
+
+module _ (net : Network) (cert : Certificate) (ok : IsNetwork net) (acc : IsAccepted net cert) where
+  -- a packet that is a reply is no command, so each command was begun by a beginning
+  not_a_reply : (n : ℕ) (b : Begun) → Short net cert ok acc b → (if is_command_to net n b then 1 else 0) ≤ of_beginning net (λ b. if is_command_to net n b then 1 else 0) b
+  not_a_reply n b short = ⊎_elim
+      (λ lt. rw (lt-ltb b.flow net.declared_flows lt) (omega arith))
+      (λ ge. rw (le-ltb b.flow net.declared_flows ge) (⊎_elim
+      (λ to.
+      let none : net.reply_to n (left_bytes net b.flow b.cargo) ≡ None = subst (λ k. net.reply_to k (left_bytes net b.flow b.cargo) ≡ None) to (short ge).unanswered in
+      rw (eq-eqb (net.flow b.flow).to n to, none) (omega arith))
+      (λ away. rw (ne_eqb (net.flow b.flow).to n away) (omega arith))
+      (cases_eq (net.flow b.flow).to n)))
+      (cases_lt b.flow net.declared_flows)
+
+  pub commands_are_begun : (n : ℕ) (steps : List Step) (begun : List Begun) (s : State) → RunOf net (empty net) steps begun s → count_by (is_command_to net n) begun ≤ count_by (is_command_to net n) (beginnings steps)
+  commands_are_begun n steps begun s r =
+      let one : Begun → ℕ = λ b. if is_command_to net n b then 1 else 0 in
+      let short = run_short net cert ok acc steps (empty net) (none net cert ok acc) s begun r (empty_inv net cert ok acc) in
+      let few = sum_le_all one (of_beginning net one) begun (all_map (Short net cert ok acc) (λ b. one b ≤ of_beginning net one b) begun (not_a_reply n) short) in
+      let sum = run_sum net ok one steps (empty net) s begun r in
+      omega arith
+
+  -- no more commands came out than were begun
+  came_few : (n : ℕ) → n < net.nodes → (steps : List Step) (s : State) → Run net (empty net) steps s → (came : List Packet) → CameOut s n came → count_by (is_command_at net n) came ≤ count_by (is_command_to net n) (beginnings steps)
+  came_few n ln steps s r came out =
+      let b = run_begins net cert ok acc steps (empty net) (none net cert ok acc) s r (empty_inv net cert ok acc) in
+      let whole = comes_out_whole net cert ok acc steps b.0 s b.1 n ln came out (is_command_at net n) in
+      let sent = count_sent net n (is_command_at net n) b.0 in
+      let begun = commands_are_begun n steps b.0 s b.1 in
+      omega arith
 
   -- ---- a slot is left for what stands in the buffer of a node that always takes
 
@@ -383,7 +382,8 @@ module _ (net : Network) (cert : Certificate) (ok : IsNetwork net) (acc : IsAcce
   have_slots steps s r keeps n ln always x rest front =
       let cut = cut_of (s.taken n) in
       let came : CameOut s n cut.0 = (cut.1, cut.2) in
-      let within = kept_after_each_step steps s r keeps n ln always.limit cut.0 always.is came in
+      let within = kept_after_each_step net ok steps s r keeps n ln always.limit cut.0 always.is came in
+      let few = came_few n ln steps s r cut.0 came in
       ⊎_elim
       (λ fewer. omega arith)
       (λ equal. let same = equal.0 in let more = one_more steps s r n ln equal.1 x rest front cut.0 came in omega arith)

@@ -2,7 +2,7 @@
 use Rattle.std.specs.Prelude.{List, count_by, length, ℕ, ◌*◌, ◌++◌, ◌+◌, ◌<◌, ◌≡◌, ◌≤◌}
 use Rattle.sw_machine.specs.Begun.{AllComesOut, AllIsAnswered, Begun, ComesOutWhole, EachRunIsCounted, IsBounded, IsBoundedByLoad, RepliesAreAsked, RunOf, characters}
 use Rattle.sw_machine.specs.Certificate.{Certificate, IsAccepted, number}
-use Rattle.sw_machine.specs.Limits.{HasNoLimits, IsReachedWithinLimits, KeepsLimits, KeptAfterEachStep, OnlyBeginningsRaise}
+use Rattle.sw_machine.specs.Limits.{HasNoLimits, IsReachedWithinLimits, KeepsLimits}
 use Rattle.sw_machine.specs.Network.{IsNetwork, Network}
 use Rattle.sw_machine.specs.Owed.{OnlyAskedOwe}
 use Rattle.sw_machine.specs.Places.{IsCycle, IsRising, IsWellRouted}
@@ -77,8 +77,6 @@ pub record IsDeadlockFreeWithinLimits (net : Network) (cert : Certificate) : Typ
   pub replies_are_asked : RepliesAreAsked net
   pub all_is_answered : AllIsAnswered net
   pub only_asked_owe : OnlyAskedOwe net
-  pub kept_after_each_step : KeptAfterEachStep net
-  pub only_beginnings_raise : OnlyBeginningsRaise net
   pub bounded : IsBounded net
   pub bounded_by_load : IsBoundedByLoad net
   pub ends_empty : EndsEmptyWithinLimits net

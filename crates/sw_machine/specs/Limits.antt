@@ -2,7 +2,7 @@
 use Rattle.std.specs.Prelude.{Bool, List, None, Some, [], count_by, false, is_some, nat_eq, ℕ, ◌&&◌, ◌++◌, ◌+◌, ◌-◌, ◌<◌, ◌∷◌, ◌≡◌, ◌≤◌}
 use Rattle.sw_char.specs.declared.nchar.End.{End}
 use Rattle.sw_machine.specs.Begun.{Begun, beginnings}
-use Rattle.sw_machine.specs.Network.{Network, left_bytes}
+use Rattle.sw_machine.specs.Network.{IsNetwork, Network, left_bytes}
 use Rattle.sw_machine.specs.Packets.{Packet}
 use Rattle.sw_machine.specs.Runs.{CameOut, Run}
 use Rattle.sw_machine.specs.State.{State, empty}
@@ -16,10 +16,9 @@ is_command_to net n b = nat_eq (net.flow b.flow).to n && is_some (net.reply_to n
 abbrev pub is_command_at : Network → ℕ → Packet → Bool
 is_command_at net n p = is_some (net.reply_to n p.bytes)
 
--- what is unanswered at node n: of the commands that these beginnings began for it, those that are not among the packets that came out
--- there, and the replies that it owes
+-- what is unanswered at node n: the commands that were begun for it but for those that came out there, and the replies that it owes
 abbrev pub unanswered : Network → ℕ → List Step → List Packet → State → ℕ
-unanswered net n steps came s = (count_by (is_command_to net n) (beginnings steps) - count_by (is_command_at net n) came) + s.owed n
+unanswered net n steps came s = (count_by (is_command_to net n) (beginnings steps) + s.owed n) - count_by (is_command_at net n) came
 
 -- after these steps what is unanswered at node n is within its limit, if it has one
 abbrev pub IsWithinLimit : Network → List Step → State → ℕ → Type 0
@@ -41,9 +40,9 @@ abbrev pub WithoutLimitsAllAreKept : Type 0
 WithoutLimitsAllAreKept = (net : Network) → HasNoLimits net → (steps : List Step) → KeepsLimits net steps
 
 -- no step but a beginning raises what is unanswered
-abbrev pub OnlyBeginningsRaise : Network → Type 0
-OnlyBeginningsRaise net = (steps : List Step) (s : State) → Run net (empty net) steps s → (step : Step) (t : State) → is_begin step ≡ false → Leads net s step t → (n : ℕ) → n < net.nodes → (came now : List Packet) → CameOut s n came → CameOut t n now → unanswered net n (steps ++ step ∷ []) now t ≤ unanswered net n steps came s
+abbrev pub OnlyBeginningsRaise : Type 0
+OnlyBeginningsRaise = (net : Network) → IsNetwork net → (steps : List Step) (s : State) → Run net (empty net) steps s → (step : Step) (t : State) → is_begin step ≡ false → Leads net s step t → (n : ℕ) → n < net.nodes → (came now : List Packet) → CameOut s n came → CameOut t n now → unanswered net n (steps ++ step ∷ []) now t ≤ unanswered net n steps came s
 
 -- so after each step of a run that keeps the limits what is unanswered at each node is within its limit
-abbrev pub KeptAfterEachStep : Network → Type 0
-KeptAfterEachStep net = (steps : List Step) (s : State) → Run net (empty net) steps s → KeepsLimits net steps → (n : ℕ) → n < net.nodes → IsWithinLimit net steps s n
+abbrev pub KeptAfterEachStep : Type 0
+KeptAfterEachStep = (net : Network) → IsNetwork net → (steps : List Step) (s : State) → Run net (empty net) steps s → KeepsLimits net steps → (n : ℕ) → n < net.nodes → IsWithinLimit net steps s n

@@ -81,13 +81,12 @@ pub fn accepted_is_never_locked_up()
     ensures quiet { OfAcceptedWithoutLimits QuietIsEmpty }
 {}
 
-/// Where no node has a limit on unanswered commands each run keeps the limits. In an accepted network what is
-/// unanswered at a node is within its limit after each step of a run that keeps them, and only the beginning of a
-/// packet raises it.
+/// Where no node has a limit on unanswered commands each run keeps the limits. What is unanswered at a node is
+/// within its limit after each step of a run that keeps them, and only the beginning of a packet raises it.
 pub fn limits_are_kept()
     ensures without_limits { WithoutLimitsAllAreKept }
-    ensures throughout { OfAccepted KeptAfterEachStep }
-    ensures raised { OfAccepted OnlyBeginningsRaise }
+    ensures throughout { KeptAfterEachStep }
+    ensures raised { OnlyBeginningsRaise }
 {}
 
 /// Over each run of an accepted network the packets that come out at a node are packets begun to it,
