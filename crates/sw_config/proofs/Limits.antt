@@ -167,6 +167,10 @@ module _ (d : Declaration) where
     pub within_limit : (n l : ℕ) → limit_at d n ≡ Some l → n < length d.nodes
     within_limit n l limit = answering_within d valid n (total_is (is_answering d n) (total_at d n) l limit).0
 
+    pub within_told : (n : ℕ) (o : Option ℕ) → o ≡ limit_at d n → IfSome o (λ l. n < length d.nodes)
+    within_told n None is = tt
+    within_told n (Some l) is = within_limit n l (sym is)
+
     pub takes_told : (n l slots : ℕ) (others : Bool) → limit_at d n ≡ Some l → slots ≡ slots_of (target_of d.nodes n) → others ≡ get_or t.others n false
         → (nat_lt l slots || l == slots && not others) ≡ always_takes d n
     takes_told n l slots others limit are told =

@@ -7,6 +7,7 @@ mod flow;
 mod flow_table;
 pub mod laws;
 mod limit_table;
+mod limited;
 mod names;
 mod network;
 
