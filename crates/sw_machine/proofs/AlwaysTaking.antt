@@ -85,4 +85,4 @@ always_takes_agrees d n = (λ h. takes_by d n (limit_at d n) refl h, takes_back 
 
 -- where it may make wait by its declaration, it does not always take in the machine
 pub not_always : (d : Declaration) (n : ℕ) → always_takes d n ≡ false → AlwaysTakes (network_of d) n → ⊥
-not_always d n no always = let yes = takes_back d n always in cc
+not_always d n never always = let yes = takes_back d n always in cc

@@ -11,7 +11,7 @@ use Rattle.sw_machine.proofs.Limits.{all_are_kept, have_slots, keeps_more}
 use Rattle.sw_machine.proofs.Runs.{empty_inv, goes_on_where, never_drops, none, reached_inv, run_begins}
 use Rattle.sw_machine.proofs.Whole.{all_comes_out, comes_out_whole}
 use Rattle.sw_machine.specs.Certificate.{Certificate, IsAccepted, IsListed, number}
-use Rattle.sw_machine.specs.DeadlockFreedom.{AlwaysGoesOnWithinLimits, EndsEmptyWithinLimits, IsDeadlockFree, IsDeadlockFreeWithinLimits, NothingIsDropped, QuietIsEmptyWithinLimits}
+use Rattle.sw_machine.specs.DeadlockFreedom.{AlwaysGoesOnWithinLimits, EndsEmptyWithinLimits, IsDeadlockFree, IsDeadlockFreeWithinLimits, IsFree, NothingIsDropped, QuietIsEmptyWithinLimits}
 use Rattle.sw_machine.specs.Limits.{HasNoLimits}
 use Rattle.sw_machine.specs.Network.{IsNetwork, Network}
 use Rattle.sw_machine.specs.Places.{ByFlow, ByTarget, Goes, IsChain, IsCycle, IsPlace, IsRising, Start}
@@ -106,3 +106,6 @@ module _ (net : Network) (cert : Certificate) (ok : IsNetwork net) (acc : IsAcce
           bounded_by_load = all.bounded_by_load;
           ends_empty = λ steps begun s r. all.ends_empty steps begun s r (kept steps);
         }
+
+  pub is_free : IsFree net cert
+  is_free = record { within_limits = is_deadlock_free_within_limits; without_limits = λ free. is_deadlock_free free }

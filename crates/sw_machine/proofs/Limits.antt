@@ -1,8 +1,8 @@
 -- Runs that keep the limits on unanswered commands.
-use Rattle.std.proofs.Common.{Bool, List, None, Option, Some, [], ap, append-nil, append_assoc, arith, count_by, eq-eqb, false, inl, inr, is_some, le-ltb, length, lt-ltb, map, nat_eq, ne_eqb, refl, subst, suc, sym, true, ℕ, ⊎_elim, ◌++◌, ◌+◌, ◌-◌, ◌<◌, ◌∙◌, ◌∷◌, ◌≡◌, ◌≢◌, ◌≤◌, ◌⊎◌}
+use Rattle.std.proofs.Common.{Bool, List, None, Option, Some, [], ap, append-nil, append_assoc, arith, count_by, eq-eqb, false, inl, inr, is_some, le-ltb, length, lt-ltb, map, nat_eq, nat_lt, ne_eqb, refl, subst, suc, sym, true, ℕ, ⊎_elim, ◌++◌, ◌+◌, ◌-◌, ◌<◌, ◌∙◌, ◌∷◌, ◌≡◌, ◌≢◌, ◌≤◌, ◌⊎◌}
 use Rattle.std.proofs.lemmas.Bool.{cases_eq, cases_lt}
 use Rattle.std.proofs.lemmas.Grind.{flat_map-append}
-use Rattle.std.proofs.lemmas.List.{length-map}
+use Rattle.std.proofs.lemmas.List.{length-map, nil_from_length}
 use Rattle.std.proofs.lemmas.List.Sums.{sum_by-cons, sum_by_push}
 use Rattle.std.specs.List.{AllByRecursion, sum_by}
 use Rattle.std.specs.Option.{option_map}
@@ -11,16 +11,17 @@ use Rattle.sw_char.specs.declared.nchar.End.{End}
 use Rattle.sw_char.specs.declared.nchar.End.TheVariants.{Eep as ByEep, Eop as ByEop}
 use Rattle.sw_char.specs.declared.nchar.NChar.{NChar}
 use Rattle.sw_char.specs.declared.nchar.NChar.TheVariants.{Data, Eep, Eop}
+use Rattle.sw_machine.proofs.Answered.{no_pending}
 use Rattle.sw_machine.proofs.Balance.{among, begun_of, count_append, count_cons}
 use Rattle.sw_machine.proofs.Cuts.{cons_tail, cut_byte, cut_marker, cut_of, cuts_are_equal, front_of, no_cons, no_packet_in, same_front}
 use Rattle.sw_machine.proofs.Ghost.{Entry, IsEntry, flat, form_of}
 use Rattle.sw_machine.proofs.Lists.{flat_chars, packet_of, put_here, put_there}
-use Rattle.sw_machine.proofs.Load.{Short, all_append, all_map, of_beginning, run_short, run_sum, sum_le_all}
+use Rattle.sw_machine.proofs.Load.{Short, all_append, all_map, of_beginning, run_short, run_sum, sum_le, sum_le_all}
 use Rattle.sw_machine.proofs.Owed.{AsMany, OneMore, Owing, reached_holds}
 use Rattle.sw_machine.proofs.Progress.{HaveSlots}
 use Rattle.sw_machine.proofs.RunLists.{run_append}
 use Rattle.sw_machine.proofs.Runs.{empty_inv, none, reached_of, run_begins}
-use Rattle.sw_machine.proofs.Whole.{comes_out_whole, count_sent, is_left, part_below}
+use Rattle.sw_machine.proofs.Whole.{all_comes_out, comes_out_whole, count_sent, is_left, part_below, zero_part}
 use Rattle.sw_machine.specs.Begun.{Begun, RunOf, beginning, beginnings}
 use Rattle.sw_machine.specs.Certificate.{Certificate, IsAccepted}
 use Rattle.sw_machine.specs.Limits.{IsWithinLimit, KeepsLimits, WithoutLimitsAllAreKept, is_command_at, is_command_to, unanswered}
@@ -28,10 +29,10 @@ use Rattle.sw_machine.specs.Network.{IsNetwork, Network, left_bytes}
 use Rattle.sw_machine.specs.Owed.{last_beginning}
 use Rattle.sw_machine.specs.Packets.{IsCut, Packet, chars, chars_of, marker_of}
 use Rattle.sw_machine.specs.Places.{AllAreLimited}
-use Rattle.sw_machine.specs.Runs.{CameOut, Run}
+use Rattle.sw_machine.specs.Runs.{CameOut, Run, undelivered}
 use Rattle.sw_machine.specs.State.{State, empty, put, reply_at}
 use Rattle.sw_machine.specs.Steps.{Accept, Arrive, Begin, Drop, Drops, Emit, Fct, FctIn, Forward, Grant, Leads, Reply, Spill, Step, is_begin}
-use Rattle.sw_rmap.specs.Owing.{PendingReply, owed_after, owed_with}
+use Rattle.sw_rmap.specs.Owing.{PendingReply, length_pending, owed_after, owed_with}
 
 -- ---- lists
 
@@ -388,3 +389,36 @@ module _ (net : Network) (cert : Certificate) (ok : IsNetwork net) (acc : IsAcce
       (λ fewer. omega arith)
       (λ equal. let same = equal.0 in let more = one_more steps s r n ln equal.1 x rest front cut.0 came in omega arith)
       always.few
+
+  -- ---- where nothing is undelivered
+
+  -- each command that was begun is among the packets that were
+  beginning_few : (g : Begun → ℕ) (b : Begun) → of_beginning net g b ≤ g b
+  beginning_few g b = few (nat_lt b.flow net.declared_flows) (g b)
+    where
+      few : (t : Bool) (k : ℕ) → (if t then k else 0) ≤ k
+      few true k = omega arith
+      few false k = omega arith
+
+  commands_are_all : (n : ℕ) (steps : List Step) (begun : List Begun) (s : State) → RunOf net (empty net) steps begun s → count_by (is_command_to net n) (beginnings steps) ≤ count_by (is_command_to net n) begun
+  commands_are_all n steps begun s r =
+      let one : Begun → ℕ = λ b. if is_command_to net n b then 1 else 0 in
+      let sum = run_sum net ok one steps (empty net) s begun r in
+      let few = sum_le (of_beginning net one) one begun (λ b. beginning_few one b) in
+      omega arith
+
+  pub nothing_is_unanswered : (steps : List Step) (s : State) → Run net (empty net) steps s → undelivered net s ≡ 0 → (n : ℕ) → n < net.nodes → (came : List Packet) → CameOut s n came → unanswered net n steps came s ≡ 0
+  nothing_is_unanswered steps s r zero_left n ln came out =
+      let b = run_begins net cert ok acc steps (empty net) (none net cert ok acc) s r (empty_inv net cert ok acc) in
+      let all = all_comes_out net cert ok acc steps b.0 s b.1 zero_left n ln came out (is_command_at net n) in
+      let sent = count_sent net n (is_command_at net n) b.0 in
+      let begun = commands_are_all n steps b.0 s b.1 in
+      let z = zero_part net.nodes (λ n. length (s.to_send n) + length_pending (s.pending n)) n ln (omega arith) in
+      let sends = nil_from_length (s.to_send n) (omega arith) in
+      let pending = ap (λ l. length l) (no_pending net ok n ln (λ address. true) (s.pending n) (omega arith)) in
+      let owes = nothing_owed sends (reached_holds net n steps s r).owing in
+      omega arith
+    where
+      nothing_owed : s.to_send n ≡ [] → Owing net n (last_beginning net n steps) (s.to_send n) (s.pending n) (s.owed n) → s.owed n ≡ length (s.pending n)
+      nothing_owed sends (OneMore l some e) = absurd (some sends)
+      nothing_owed sends (AsMany l e) = e

@@ -81,6 +81,11 @@ pub record IsDeadlockFreeWithinLimits (net : Network) (cert : Certificate) : Typ
   pub bounded_by_load : IsBoundedByLoad net
   pub ends_empty : EndsEmptyWithinLimits net
 
+-- what an accepted certificate shows: what holds over the runs that keep the limits, and over every run where no node has a limit
+pub record IsFree (net : Network) (cert : Certificate) : Type 0 where
+  pub within_limits : IsDeadlockFreeWithinLimits net cert
+  pub without_limits : HasNoLimits net → IsDeadlockFree net cert
+
 -- what holds of each network with an accepted certificate
 abbrev pub OfAccepted : (Network → Type 0) → Type 0
 OfAccepted P = (net : Network) (cert : Certificate) → IsNetwork net → IsAccepted net cert → P net
@@ -89,8 +94,5 @@ OfAccepted P = (net : Network) (cert : Certificate) → IsNetwork net → IsAcce
 abbrev pub OfAcceptedWithoutLimits : (Network → Type 0) → Type 0
 OfAcceptedWithoutLimits P = (net : Network) (cert : Certificate) → IsNetwork net → HasNoLimits net → IsAccepted net cert → P net
 
-abbrev pub AcceptedIsDeadlockFree : Type 0
-AcceptedIsDeadlockFree = (net : Network) (cert : Certificate) → IsNetwork net → HasNoLimits net → IsAccepted net cert → IsDeadlockFree net cert
-
-abbrev pub AcceptedIsDeadlockFreeWithinLimits : Type 0
-AcceptedIsDeadlockFreeWithinLimits = (net : Network) (cert : Certificate) → IsNetwork net → IsAccepted net cert → IsDeadlockFreeWithinLimits net cert
+abbrev pub AcceptedIsFree : Type 0
+AcceptedIsFree = (net : Network) (cert : Certificate) → IsNetwork net → IsAccepted net cert → IsFree net cert

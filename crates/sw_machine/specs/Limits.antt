@@ -4,7 +4,7 @@ use Rattle.sw_char.specs.declared.nchar.End.{End}
 use Rattle.sw_machine.specs.Begun.{Begun, beginnings}
 use Rattle.sw_machine.specs.Network.{IsNetwork, Network, left_bytes}
 use Rattle.sw_machine.specs.Packets.{Packet}
-use Rattle.sw_machine.specs.Runs.{CameOut, Run}
+use Rattle.sw_machine.specs.Runs.{CameOut, Run, undelivered}
 use Rattle.sw_machine.specs.State.{State, empty}
 use Rattle.sw_machine.specs.Steps.{Begin, Leads, Step, is_begin}
 
@@ -42,6 +42,10 @@ WithoutLimitsAllAreKept = (net : Network) → HasNoLimits net → (steps : List 
 -- no step but a beginning raises what is unanswered
 abbrev pub OnlyBeginningsRaise : Type 0
 OnlyBeginningsRaise = (net : Network) → IsNetwork net → (steps : List Step) (s : State) → Run net (empty net) steps s → (step : Step) (t : State) → is_begin step ≡ false → Leads net s step t → (n : ℕ) → n < net.nodes → (came now : List Packet) → CameOut s n came → CameOut t n now → unanswered net n (steps ++ step ∷ []) now t ≤ unanswered net n steps came s
+
+-- where nothing is undelivered, nothing is unanswered
+abbrev pub NothingIsUnanswered : Network → Type 0
+NothingIsUnanswered net = (steps : List Step) (s : State) → Run net (empty net) steps s → undelivered net s ≡ 0 → (n : ℕ) → n < net.nodes → (came : List Packet) → CameOut s n came → unanswered net n steps came s ≡ 0
 
 -- so after each step of a run that keeps the limits what is unanswered at each node is within its limit
 abbrev pub KeptAfterEachStep : Type 0

@@ -9,9 +9,9 @@ ghost use Rattle.sw_machine.specs.Sample.{certificate, misrouted, of_capacity, s
 ghost use Rattle.sw_machine.specs.Witnesses.{IsAnswered, IsDiscarded, IsDropped, SendsFcts};
 ghost use Rattle.std.specs.Prelude.{◌<◌, ◌≤◌, ◌∷◌, [], None, Option, Some, ℕ};
 ghost use Rattle.sw_machine.specs.Begun.{AllComesOut, AllIsAnswered, ComesOutWhole, EachRunIsCounted, IsBounded, IsBoundedByLoad, RepliesAreAsked};
-ghost use Rattle.sw_machine.specs.DeadlockFreedom.{AcceptedIsDeadlockFree, AcceptedIsDeadlockFreeWithinLimits, AlwaysGoesOn, AlwaysGoesOnWithinLimits, EndsEmpty, EndsEmptyWithinLimits, IsNeverLockedUp, IsNeverLockedUpWithinLimits, NothingIsDropped, OfAccepted, OfAcceptedWithoutLimits, QuietIsEmpty, QuietIsEmptyWithinLimits};
+ghost use Rattle.sw_machine.specs.DeadlockFreedom.{AcceptedIsFree, AlwaysGoesOn, AlwaysGoesOnWithinLimits, EndsEmpty, EndsEmptyWithinLimits, IsNeverLockedUp, IsNeverLockedUpWithinLimits, NothingIsDropped, OfAccepted, OfAcceptedWithoutLimits, QuietIsEmpty, QuietIsEmptyWithinLimits};
 ghost use Rattle.sw_machine.specs.LimitSamples.{LocksUp, detour, detour_certificate, detour_steps, duel, duel_certificate, duel_steps};
-ghost use Rattle.sw_machine.specs.Limits.{KeptAfterEachStep, OnlyBeginningsRaise, WithoutLimitsAllAreKept};
+ghost use Rattle.sw_machine.specs.Limits.{KeptAfterEachStep, NothingIsUnanswered, OnlyBeginningsRaise, WithoutLimitsAllAreKept};
 ghost use Rattle.sw_machine.specs.OneSlot.{OneSlotIsOneReply};
 ghost use Rattle.sw_machine.specs.Owed.{EmitSettles, NodesOweReplies, OnlyAskedOwe};
 ghost use Rattle.sw_machine.specs.Parts.{LinkEndsAreAtCells, OutputsAreHeldOnce, StepsAreLocal, StepsChangeOneCell};
@@ -82,11 +82,13 @@ pub fn accepted_is_never_locked_up()
 {}
 
 /// Where no node has a limit on unanswered commands each run keeps the limits. What is unanswered at a node is
-/// within its limit after each step of a run that keeps them, and only the beginning of a packet raises it.
+/// within its limit after each step of a run that keeps them, and only the beginning of a packet raises it. In an
+/// accepted network nothing is unanswered where nothing is undelivered.
 pub fn limits_are_kept()
     ensures without_limits { WithoutLimitsAllAreKept }
     ensures throughout { KeptAfterEachStep }
     ensures raised { OnlyBeginningsRaise }
+    ensures answered { OfAccepted NothingIsUnanswered }
 {}
 
 /// Over each run of an accepted network the packets that come out at a node are packets begun to it,
@@ -122,8 +124,7 @@ pub fn accepted_is_bounded()
 /// All that an accepted certificate shows of its network: over the runs that keep the limits on unanswered
 /// commands, and over every run where no node has a limit.
 pub fn accepted_is_deadlock_free()
-    ensures within_limits { AcceptedIsDeadlockFreeWithinLimits }
-    ensures without_limits { AcceptedIsDeadlockFree }
+    ensures { AcceptedIsFree }
 {}
 
 /// There are networks, whatever the size of their buffers, and accepted ones, with a group and a

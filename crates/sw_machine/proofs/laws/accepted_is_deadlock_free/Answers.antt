@@ -1,8 +1,5 @@
 use Rattle.sw_machine.proofs.laws.accepted_is_deadlock_free.Goals as goal
-use Rattle.sw_machine.proofs.Free.{is_deadlock_free, is_deadlock_free_within_limits}
+use Rattle.sw_machine.proofs.Free.{is_free}
 
 pub returns : goal.returns
-returns c = record {
-  within_limits = λ net cert ok acc. is_deadlock_free_within_limits net cert ok acc;
-  without_limits = λ net cert ok free acc. is_deadlock_free net cert ok acc free;
-}
+returns c = λ net cert ok acc. is_free net cert ok acc
