@@ -127,6 +127,16 @@ class Draft:
         return {"name": f"f{number}", "source": source, "target": target, "address": address, "left": left, "reply": reply}
 
 
+def add_limits(random, network):
+    """Slots and limits on unanswered commands, so that most flows of commands are limited."""
+    network.slots = {i: random.randint(1, 4) for i, (_, target) in enumerate(network.nodes) if target and random.random() < 0.8}
+    network.outstanding = {i: random.randint(1, 3) for i in range(len(network.nodes)) if random.random() < 0.3}
+    for flow in network.flows:
+        if flow["reply"] is not None and random.random() < 0.8:
+            flow["outstanding"] = random.randint(1, 2)
+    return network
+
+
 def random_network(random, nodes=6, switches=5, flows=7):
     """A network of at most so many parts."""
     draft = Draft(random, nodes, switches)

@@ -23,6 +23,8 @@ class Sample:
 
     def __init__(self, found):
         self.nodes = [(it["name"], "target" in it) for it in found.get("node", [])]
+        self.slots = {i: it["target"].get("slots", 1) for i, it in enumerate(found.get("node", [])) if "target" in it}
+        self.outstanding = {i: it["outstanding"] for i, it in enumerate(found.get("node", [])) if "outstanding" in it}
         self.switches = [(it["name"], [self.entry(r) for r in it.get("route", [])]) for it in found.get("switch", [])]
         names = [name for name, _ in self.nodes], [name for name, _ in self.switches]
         self.links = [tuple(self.end(names, it, key) for key in "ab") for it in found.get("link", [])]
@@ -44,8 +46,9 @@ class Sample:
             "address": it.get("address", []),
             "left": it.get("left", 0),
             "reply": reply and (reply.get("path", []), reply["initiator"]),
+            **({"outstanding": reply["outstanding"]} if reply and "outstanding" in reply else {}),
         }
 
     def verdict(self):
         switches = [(name, {b: (ports, delete) for low, high, ports, delete in table for b in range(low, high + 1)}) for name, table in self.switches]
-        return Verdict(Network(self.nodes, switches, self.links, self.flows))
+        return Verdict(Network(self.nodes, switches, self.links, self.flows, self.slots, self.outstanding))

@@ -7,18 +7,40 @@ class Network:
     """Nodes (name, whether it is a target), switches (name, table), links (two ends) and flows, all by number.
 
     An end is ("node", number) or ("switch", number, port); a table gives for a byte its ports and whether it is deleted. A flow has
-    the keys name, source, target, address, left and reply, which is None or a path and an initiator's byte.
+    the keys name, source, target, address, left and reply, which is None or a path and an initiator's byte; where how many of its commands may
+    be unanswered is limited, also outstanding. `slots` and `outstanding` are by node, where they are not 1 and not without limit.
     """
 
-    def __init__(self, nodes, switches, links, flows):
+    def __init__(self, nodes, switches, links, flows, slots=None, outstanding=None):
         self.nodes, self.switches, self.links, self.flows = nodes, switches, links, flows
+        self.slots, self.outstanding = slots or {}, outstanding or {}
+
+    def limit(self, target):
+        """How many commands may be unanswered at a target, or None."""
+        total = 0
+        for source in range(len(self.nodes)):
+            flows = [f.get("outstanding") for f in self.flows if f["reply"] is not None and (f["source"], f["target"]) == (source, target)]
+            those = [self.outstanding.get(source), None if None in flows else sum(flows)]
+            if flows and those == [None, None]:
+                return None
+            total += min(it for it in those if it is not None) if flows else 0
+        return total
+
+    def always_takes(self, target):
+        """Whether a target takes what comes, whatever it owes."""
+        limit, slots = self.limit(target), self.slots.get(target, 1)
+        others = [f for f in self.flows if f["target"] == target and f["reply"] is None]
+        replied = [f for f in self.flows if f["source"] == target and f["reply"] is not None]
+        return limit is not None and (limit < slots or limit == slots and not others and not replied)
+
+    def node_text(self, i, name, target):
+        slots = f", slots = {self.slots[i]}" if i in self.slots else ""
+        text = f'{{ name = "{name}"' + (f", target = {{ logical = {100 + i}, size = 16{slots} }}" if target else "")
+        return text + (f", outstanding = {self.outstanding[i]}" if i in self.outstanding else "") + " }"
 
     def text(self):
-        """The network file."""
-        nodes = [
-            f'{{ name = "{name}"' + (f", target = {{ logical = {100 + i}, size = 16 }}" if target else "") + " }"
-            for i, (name, target) in enumerate(self.nodes)
-        ]
+        """The network file: of version 3 where it has limits, and else of version 1."""
+        nodes = [self.node_text(i, *node) for i, node in enumerate(self.nodes)]
         switches = []
         for name, table in self.switches:
             routes = [
@@ -29,7 +51,8 @@ class Network:
         links = [f'{{ {self.end_keys("a", a)}, {self.end_keys("b", b)} }}' for a, b in self.links]
         flows = [self.flow_text(flow) for flow in self.flows]
         lists = [("node", nodes), ("switch", switches), ("link", links), ("flow", flows)]
-        return "version = 1\n" + "".join(f"{key} = [{', '.join(entries)}]\n" for key, entries in lists)
+        limited = self.slots or self.outstanding or any("outstanding" in f for f in self.flows)
+        return f"version = {3 if limited else 1}\n" + "".join(f"{key} = [{', '.join(entries)}]\n" for key, entries in lists)
 
     def end_keys(self, key, end):
         if end[0] == "node":
@@ -41,7 +64,8 @@ class Network:
         text = f'{{ name = "{flow["name"]}", from = "{source}", to = "{target}", address = {flow["address"]}, left = {flow["left"]}'
         if flow["reply"] is not None:
             path, initiator = flow["reply"]
-            text += f", reply = {{ path = {path}, initiator = {initiator} }}"
+            outstanding = f", outstanding = {flow['outstanding']}" if "outstanding" in flow else ""
+            text += f", reply = {{ path = {path}, initiator = {initiator}{outstanding} }}"
         return text + " }"
 
 
@@ -93,9 +117,9 @@ class Verdict:
         return sorted(found)
 
     def add_targets(self):
-        """A target where a flow with a reply ends takes nothing while it answers."""
+        """A target where a flow with a reply ends takes nothing while it owes as many replies as it may, which some never do."""
         for flow in self.network.flows:
-            if flow["reply"] is not None:
+            if flow["reply"] is not None and not self.network.always_takes(flow["target"]):
                 out = self.starts.index(("node", flow["target"]))
                 self.causes.setdefault((out ^ 1, out), f"target {self.network.nodes[flow['target']][0]}")
 

@@ -70,7 +70,7 @@ class Check:
         pairs = []
         for flow, places in zip(network.flows, listed):
             pairs += self.pairs(flow, places)
-        outputs = [self.channels["node", node] for node in sorted(network.answering)]
+        outputs = [self.channels["node", node] for node in sorted(network.waiting)]
         for channel, following in pairs + [(output ^ 1, output) for output in outputs]:
             if numbers[channel] >= numbers[following]:
                 raise Refusal("C5 NotRising", channel, following)

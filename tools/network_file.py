@@ -73,15 +73,16 @@ class Network:
 
     `starts` has for each channel the end where it starts, ("node", number) or ("switch", number, port); `routes` for each switch its
     table, from an address to the ports and whether it is deleted; `flows` each flow, replies after the declared ones, as
-    (name, node it comes from, node it goes to, address, left); `answering` the targets that answer a flow.
+    (name, node it comes from, node it goes to, address, left); `waiting` the targets that answer a flow and don't always take what comes.
     """
 
     def __init__(self, text):
         document = Table(parse(text), "document", "version node switch link flow")
-        self.is_new = document.number("version", 1, 2) == 2
-        self.names, self.answering = {}, set()
+        self.version = document.number("version", 1, 3)
+        self.is_new, self.has_limits = self.version >= 2, self.version >= 3
+        self.names, self.slots, self.outstanding, self.commands = {}, {}, {}, []
         nodes = document.tables("node", 1024, "F8 E4 TooMany node")
-        self.is_target = [self.node(Table(it, f"node {i}", "name target"), i) for i, it in nodes]
+        self.is_target = [self.node(Table(it, f"node {i}", "name target" + " outstanding" * self.has_limits), i) for i, it in nodes]
         switches = document.tables("switch", 512, "F8 E4 TooMany switch")
         self.routes = [self.switch(Table(it, f"switch {i}", "name arbiter route"), i) for i, it in switches]
         link_keys = "a b a_port b_port buffer" + " buffer_a buffer_b" * self.is_new
@@ -96,10 +97,16 @@ class Network:
             if "reply" in it:
                 replies.append(self.reply(flow, i, declared[-1]))
         self.flows = declared + replies
+        self.waiting = {target for _, target, _ in self.commands if not self.always_takes(target)}
 
     def node(self, node, i):
         """Returns whether the node is a target."""
         node.named(self.names, ("node", i))
+        is_target = self.target(node, i)
+        self.outstanding[i] = node.number("outstanding", 1, 65535) if "outstanding" in node.values else None
+        return is_target
+
+    def target(self, node, i):
         if "target" not in node.values:
             return False
         target = node.table("target", "logical key start size" + " slots" * self.is_new)
@@ -107,7 +114,7 @@ class Network:
         target.number("key", 0, 255, 0)
         start = target.number("start", 0, 2**40 - 1, 0)
         target.number("size", 1, min(65536, 2**40 - start))
-        target.number("slots", 1, 8, 1)
+        self.slots[i] = target.number("slots", 1, 64 if self.has_limits else 8, 1)
         return True
 
     def switch(self, switch, i):
@@ -156,13 +163,31 @@ class Network:
 
     def reply(self, flow, i, declared):
         """Returns the flow of replies to a declared flow."""
-        reply = flow.table("reply", "path initiator")
+        reply = flow.table("reply", "path initiator" + " outstanding" * self.has_limits)
         path, initiator = reply.numbers("path", 255, range(MOST_BYTES), []), reply.number("initiator", 0, 255)
+        outstanding = reply.number("outstanding", 1, 65535) if "outstanding" in reply.values else None
         name, source, target, _, _ = declared
         if len(path) > 12 or path[:1] == [0] or not 32 <= initiator <= 254 or not self.is_target[target]:
             raise Fault(f"F10 ReplyShape flow {i}")
-        self.answering.add(target)
+        self.commands.append((source, target, outstanding))
         return name + "+reply", target, source, [*path, initiator], 1
+
+    def limit(self, target):
+        """How many commands may be unanswered at a target: of each node as many as its flows may have together, or the node, if that is less."""
+        total = 0
+        for node, own in self.outstanding.items():
+            of_flows = [outstanding for source, at, outstanding in self.commands if (source, at) == (node, target)]
+            known = [*([own] if own is not None else []), *([sum(of_flows)] if None not in of_flows else [])]
+            if of_flows and not known:
+                return None
+            total += min(known) if of_flows else 0
+        return total
+
+    def always_takes(self, target):
+        """Whether fewer commands may be unanswered there than replies may be owed, or as many, where nothing else ends there."""
+        limit, slots = self.limit(target), self.slots[target]
+        ends = sum(flow[2] == target for flow in self.flows)
+        return limit is not None and (limit < slots or limit == slots and ends == sum(at == target for _, at, _ in self.commands))
 
 
 def is_too_large(value):
