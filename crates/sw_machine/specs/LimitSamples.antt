@@ -141,7 +141,7 @@ waiting_command =
     ++ (fct 0 ++ (replicate 8 (Emit 0) ++ (replicate 8 (Arrive 0) ++ (replicate 2 (Forward 0)
     ++ (replicate 2 (Arrive 4) ++ (replicate 2 (Forward 4) ++ (replicate 2 (Arrive 3)
     ++ (fct 4 ++ (replicate 6 (Forward 0) ++ (replicate 6 (Arrive 4) ++ (replicate 2 (Forward 4) ++ (replicate 2 (Arrive 3)
-    ++ (fct 0 ++ (replicate 8 (Emit 0) ++ (replicate 8 (Arrive 0) ++ (replicate 2 (Forward 0) ++ replicate 2 (Arrive 4)))))))))))))))))))))
+    ++ (fct 0 ++ (replicate 8 (Emit 0) ++ (replicate 8 (Arrive 0) ++ (replicate 2 (Forward 0) ++ replicate 2 (Arrive 4))))))))))))))))))))))
 
 -- two commands are unanswered, one of them owed: the target takes no more until its reply has gone, whose way the other one is in
 abbrev pub detour_steps : List Step
