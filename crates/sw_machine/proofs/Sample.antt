@@ -14,7 +14,7 @@ use Rattle.sw_machine.specs.Sample.{Row, answer, cell_at, certificate, ends, flo
 use Rattle.sw_flow.proofs.Lists.{none_in}
 use Rattle.sw_machine.proofs.Steps.{switch_is}
 
-pub each_of : (P : ℕ → Type 0) → P 0 → P 1 → P 2 → P 3 → P 4 → P 5 → P 6 → P 7 → (c : ℕ) → c < 8 → P c
+each_of : (P : ℕ → Type 0) → P 0 → P 1 → P 2 → P 3 → P 4 → P 5 → P 6 → P 7 → (c : ℕ) → c < 8 → P c
 each_of P a b d e f g h i zero lt = a
 each_of P a b d e f g h i (suc zero) lt = b
 each_of P a b d e f g h i (suc (suc zero)) lt = d
@@ -36,7 +36,7 @@ no_node s n e = cc
 pub node_is : (m n : ℕ) → AtNode m ≡ AtNode n → m ≡ n
 node_is m n e = cc
 
-pub each_in : {A : Type 0} (P : A → Type 0) (l : List A) (x : A) → AllByRecursion P l → Contains l x → P x
+each_in : {A : Type 0} (P : A → Type 0) (l : List A) (x : A) → AllByRecursion P l → Contains l x → P x
 each_in P [] x all h = absurd (none_in x h)
 each_in P (y ∷ l) x all (zero, lt, e) = subst P e all.0
 each_in P (y ∷ l) x all (suc k, lt, e) = each_in P l x all.1 (k, omega arith, e)
