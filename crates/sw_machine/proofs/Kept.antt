@@ -1,12 +1,13 @@
 -- Runs that keep the limits on unanswered commands, and lead to a state that is locked up, found by trying their steps.
-use Rattle.std.proofs.Common.{Bool, List, None, Option, Some, [], ap, append-nil, append_assoc, false, ltb-true, nat_le, nat_lt, refl, subst, sym, true, ℕ, ◌++◌, ◌<◌, ◌∙◌, ◌∷◌, ◌≡◌, ◌≤◌}
+use Rattle.std.proofs.Common.{Bool, List, None, Option, Some, [], ap, append-nil, append_assoc, arith, false, ltb-true, nat_le, nat_lt, refl, subst, sym, true, ℕ, ◌++◌, ◌<◌, ◌∙◌, ◌∷◌, ◌≡◌, ◌≤◌}
 use Rattle.std.proofs.lemmas.Bool.{agree_below, agree_below_at, and_parts, leb-true}
 use Rattle.std.specs.Option.{option_map_or}
 use Rattle.std.specs.Prelude.{is_some, not, ◌&&◌}
+use Rattle.sw_char.specs.declared.nchar.End.{End}
 use Rattle.sw_machine.proofs.Cuts.{cons_tail, cut_of, cuts_are_equal, no_cons}
 use Rattle.sw_machine.proofs.Tries.{tried, tries}
 use Rattle.sw_machine.specs.LimitSamples.{LocksUp}
-use Rattle.sw_machine.specs.Limits.{IsWithinLimits, unanswered}
+use Rattle.sw_machine.specs.Limits.{IsWithinLimit, unanswered}
 use Rattle.sw_machine.specs.Network.{IsNetwork, Network}
 use Rattle.sw_machine.specs.Runs.{IsLockedUp, IsQuiet, Run, undelivered}
 use Rattle.sw_machine.specs.State.{State, empty}
@@ -26,6 +27,10 @@ head_is x y a b e = cc
 some_is : (s t : State) → Some s ≡ Some t → s ≡ t
 some_is s t e = cc
 
+-- what is unanswered at each node is within its limit
+abbrev AreWithin : Network → List Step → State → Type 0
+AreWithin net steps s = (n : ℕ) → n < net.nodes → IsWithinLimit net steps s n
+
 module _ (net : Network) where
   -- whether what is unanswered at a node is within this limit
   abbrev is_within : List Step → State → ℕ → Option ℕ → Bool
@@ -35,8 +40,8 @@ module _ (net : Network) where
   abbrev are_within : List Step → State → Bool
   are_within before s = all_below (λ n. is_within before s n (net.limit n)) net.nodes
 
-  within : (before : List Step) (s : State) → are_within before s ≡ true → IsWithinLimits net before s
-  within before s all n limit came lt is out =
+  within : (before : List Step) (s : State) → are_within before s ≡ true → AreWithin net before s
+  within before s all n lt limit came is out =
       let k = cut_of (s.taken n) in
       let same : k.0 ≡ came = (cuts_are_equal (s.taken n) k.0 came k.1 out.0 k.2 out.1).0 in
       let fits : is_within before s n (Some limit) ≡ true =
@@ -125,7 +130,7 @@ module _ (net : Network) where
   locks before (step ∷ steps) s = are_within before s && option_map_or (λ t. locks (before ++ step ∷ []) steps t) (try_step net s step) false
 
   abbrev KeepsFrom : List Step → List Step → State → Type 0
-  KeepsFrom before steps s = (done after : List Step) (t : State) → done ++ after ≡ steps → Run net s done t → IsWithinLimits net (before ++ done) t
+  KeepsFrom before steps s = (done after : List Step) (t : State) → done ++ after ≡ steps → Run net s done t → AreWithin net (before ++ done) t
 
   record Locks (before steps : List Step) (s : State) : Type 0 where
     end : State
@@ -133,9 +138,9 @@ module _ (net : Network) where
     keeps : KeepsFrom before steps s
     locked : IsLockedUp net end
 
-  here : (before : List Step) (s t : State) → are_within before s ≡ true → t ≡ s → IsWithinLimits net (before ++ []) t
+  here : (before : List Step) (s t : State) → are_within before s ≡ true → t ≡ s → AreWithin net (before ++ []) t
   here before s t all same =
-      subst (λ t. IsWithinLimits net (before ++ []) t) (sym same) (subst (λ l. IsWithinLimits net l s) (sym (append-nil before)) (within before s all))
+      subst (λ t. AreWithin net (before ++ []) t) (sym same) (subst (λ l. AreWithin net l s) (sym (append-nil before)) (within before s all))
 
   keeps_last : (before : List Step) (s : State) → are_within before s ≡ true → KeepsFrom before [] s
   keeps_last before s all [] after t e r = here before s t all r
@@ -149,8 +154,8 @@ module _ (net : Network) where
       let leads : Leads net s step r.0 = subst (λ x. Leads net s x r.0) one r.1 in
       let same : r.0 ≡ mid = some_is r.0 mid (sym (tries net s step r.0 leads) ∙ is) in
       let k = on done after t (cons_tail first step (done ++ after) steps e) (subst (λ m. Run net m done t) same r.2) in
-      let l : IsWithinLimits net (before ++ step ∷ done) t = subst (λ l. IsWithinLimits net l t) (append_assoc before (step ∷ []) done) k in
-      subst (λ x. IsWithinLimits net (before ++ x ∷ done) t) (sym one) l
+      let l : AreWithin net (before ++ step ∷ done) t = subst (λ l. AreWithin net l t) (append_assoc before (step ∷ []) done) k in
+      subst (λ x. AreWithin net (before ++ x ∷ done) t) (sym one) l
 
   shown : IsNetwork net → (before steps : List Step) (s : State) → locks before steps s ≡ true → Locks before steps s
   shown ok before [] s e =
@@ -171,7 +176,20 @@ module _ (net : Network) where
           let l = on mid e in
           record { end = l.end; run = (mid, tried net s step mid is, l.run); keeps = keeps_on before step steps s mid all is l.keeps; locked = l.locked }
 
+  -- the node where the flow of a packet that was begun ends
+  ends_in_net : IsNetwork net → (before : List Step) (flow : ℕ) (cargo : List ℕ) (end : End) (s t : State) → Run net s (before ++ Begin flow cargo end ∷ []) t → (net.flow flow).to < net.nodes
+  ends_in_net ok [] flow cargo end s t r =
+      let declared = r.1.declared.declared in
+      let flows = ok.flows_declared in
+      (ok.flow_ends flow (omega arith)).1
+  ends_in_net ok (step ∷ before) flow cargo end s t r = ends_in_net ok before flow cargo end r.0 t r.2
+
   pub locks_up : IsNetwork net → (steps : List Step) → locks [] steps (empty net) ≡ true → LocksUp net steps
   locks_up ok steps e =
       let l = shown ok [] steps (empty net) e in
-      record { s = l.end; run = l.run; keeps = λ before after s e r. l.keeps before after s e r; locked = l.locked }
+      record {
+        s = l.end;
+        run = l.run;
+        keeps = λ before after flow cargo end t e r. l.keeps (before ++ Begin flow cargo end ∷ []) after t (append_assoc before (Begin flow cargo end ∷ []) after ∙ e) r (net.flow flow).to (ends_in_net ok before flow cargo end (empty net) t r);
+        locked = l.locked;
+      }
