@@ -1,5 +1,5 @@
 -- A node always takes what comes by its declaration exactly where it does in the machine.
-use Rattle.std.proofs.Common.{◌≡◌, ℕ, zero, suc, ◌<◌, ◌==◌, ◌&&◌, ◌||◌, Bool, false, true, List, [], ◌∷◌, length, Option, Some, None, refl, sym, ap, ◌∙◌, subst, inl, inr, ⊎_elim, lt-ltb, ltb-true, eq-eqb, ne_eqb, arith}
+use Rattle.std.proofs.Common.{◌≡◌, ℕ, zero, suc, ◌==◌, ◌&&◌, ◌||◌, Bool, false, true, List, [], ◌∷◌, Option, Some, None, refl, sym, ap, ◌∙◌, inl, inr, ⊎_elim, lt-ltb, ltb-true, eq-eqb, ne_eqb}
 use Rattle.std.specs.Prelude.{nat_lt, not, slice_get}
 use Rattle.std.specs.List.{list_all}
 use Rattle.std.specs.Option.{option_map_or}
@@ -8,8 +8,8 @@ use Rattle.std.proofs.lemmas.Option.{slice_get_within}
 use Rattle.sw_flow.specs.Entries.{Declaration, FlowEntry, all_flows, target_of}
 use Rattle.sw_flow.specs.Limits.{all_limited_at, always_takes, is_limited, limit_at}
 use Rattle.sw_rmap.specs.Targets.{slots_of}
-use Rattle.sw_machine.proofs.Flows.{flow_at, some_at}
-use Rattle.sw_machine.specs.Model.{network_of, reply_number}
+use Rattle.sw_machine.proofs.Flows.{some_at}
+use Rattle.sw_machine.specs.Model.{network_of}
 use Rattle.sw_machine.specs.ModelLaws.{AlwaysTakesAgrees}
 use Rattle.sw_machine.specs.Places.{AllAreLimited, AlwaysTakes}
 

@@ -73,7 +73,7 @@ abbrev longer_cut : (b : ℕ) (l : List NChar) (ps : List Packet) (bytes : List 
 longer_cut b l [] bytes e = ([], b ∷ bytes, ap (λ l. Data b ∷ l) e)
 longer_cut b l (p ∷ ps) bytes e = (record { bytes = b ∷ p.bytes; end = p.end } ∷ ps, bytes, ap (λ l. Data b ∷ l) e)
 
-pub cut_of : (l : List NChar) → (ps : List Packet) × (bytes : List ℕ) × IsCut l ps bytes
+unfoldable pub cut_of : (l : List NChar) → (ps : List Packet) × (bytes : List ℕ) × IsCut l ps bytes
 cut_of [] = ([], [], refl)
 cut_of (Data b ∷ l) = let r = cut_of l in longer_cut b l r.0 r.1 r.2
 cut_of (Eop ∷ l) = let r = cut_of l in (record { bytes = []; end = ByEop } ∷ r.0, r.1, ap (λ l. Eop ∷ l) r.2)

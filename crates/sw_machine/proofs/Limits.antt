@@ -1,12 +1,12 @@
 -- Runs that keep the limits on unanswered commands.
-use Rattle.std.proofs.Common.{Bool, List, None, Option, Some, [], ap, append-nil, append_assoc, arith, count_by, eq-eqb, false, inl, inr, is_some, le-ltb, length, lt-ltb, map, nat_eq, nat_lt, ne_eqb, refl, subst, suc, sym, true, ℕ, ⊎_elim, ◌++◌, ◌+◌, ◌-◌, ◌<◌, ◌∙◌, ◌∷◌, ◌≡◌, ◌≢◌, ◌≤◌, ◌⊎◌}
+use Rattle.std.proofs.Common.{Bool, List, None, Option, Some, [], ap, append-nil, append_assoc, arith, count_by, eq-eqb, false, inl, inr, is_some, le-ltb, length, lt-ltb, map, nat_lt, ne_eqb, refl, subst, sym, true, ℕ, ⊎_elim, ◌++◌, ◌+◌, ◌-◌, ◌<◌, ◌∙◌, ◌∷◌, ◌≡◌, ◌≢◌, ◌≤◌, ◌⊎◌}
 use Rattle.std.proofs.lemmas.Bool.{cases_eq, cases_lt}
 use Rattle.std.proofs.lemmas.Grind.{flat_map-append}
 use Rattle.std.proofs.lemmas.List.{length-map, nil_from_length}
 use Rattle.std.proofs.lemmas.List.Sums.{sum_by-cons, sum_by_push}
-use Rattle.std.specs.List.{AllByRecursion, sum_by}
+use Rattle.std.specs.List.{AllByRecursion}
 use Rattle.std.specs.Option.{option_map}
-use Rattle.std.specs.Prelude.{if◌then◌else◌, ◌&&◌}
+use Rattle.std.specs.Prelude.{if◌then◌else◌}
 use Rattle.sw_char.specs.declared.nchar.End.{End}
 use Rattle.sw_char.specs.declared.nchar.End.TheVariants.{Eep as ByEep, Eop as ByEop}
 use Rattle.sw_char.specs.declared.nchar.NChar.{NChar}
@@ -15,7 +15,7 @@ use Rattle.sw_machine.proofs.Answered.{no_pending}
 use Rattle.sw_machine.proofs.Balance.{among, begun_of, count_append, count_cons}
 use Rattle.sw_machine.proofs.Cuts.{cons_tail, cut_byte, cut_marker, cut_of, cuts_are_equal, front_of, no_cons, no_packet_in, same_front}
 use Rattle.sw_machine.proofs.Ghost.{Entry, IsEntry, flat, form_of}
-use Rattle.sw_machine.proofs.Lists.{flat_chars, packet_of, put_here, put_there}
+use Rattle.sw_machine.proofs.Lists.{flat_chars, packet_of, put_there}
 use Rattle.sw_machine.proofs.Load.{Short, all_append, all_map, of_beginning, run_short, run_sum, sum_le, sum_le_all}
 use Rattle.sw_machine.proofs.Owed.{AsMany, OneMore, Owing, reached_holds}
 use Rattle.sw_machine.proofs.Progress.{HaveSlots}

@@ -6,8 +6,8 @@ use Rattle.std.specs.Option.{option_map}
 use Rattle.std.specs.Prelude.{if◌then◌else◌, slice_get, unwrap_or}
 use Rattle.sw_char.specs.declared.nchar.End.{End}
 use Rattle.sw_machine.proofs.Cuts.{no_cons}
-use Rattle.sw_machine.specs.Certificate.{IsAccepted, IsListed, number}
-use Rattle.sw_machine.specs.Network.{AtNode, AtSwitch, IsNetwork, IsReplyFlow, Place, left_bytes, reverse_of}
+use Rattle.sw_machine.specs.Certificate.{Certificate, IsAccepted, IsListed, number}
+use Rattle.sw_machine.specs.Network.{AtNode, AtSwitch, IsNetwork, IsReplyFlow, Network, Place, left_bytes, reverse_of}
 use Rattle.sw_rmap.specs.Owing.{PendingReply}
 use Rattle.sw_machine.specs.Places.{Follows, NoFault, deleted_after, header}
 use Rattle.sw_machine.specs.Sample.{Row, answer, cell_at, certificate, ends, flow, look_in, misrouted, of_capacity, place, reply_to, sample, starts, table}
@@ -25,15 +25,15 @@ each_of P a b d e f g h i (suc (suc (suc (suc (suc (suc zero)))))) lt = h
 each_of P a b d e f g h i (suc (suc (suc (suc (suc (suc (suc zero))))))) lt = i
 each_of P a b d e f g h i (suc (suc (suc (suc (suc (suc (suc (suc c)))))))) lt = absurd (omega arith)
 
-both_of : (P : ℕ → Type 0) → P 0 → P 1 → (n : ℕ) → n < 2 → P n
+pub both_of : (P : ℕ → Type 0) → P 0 → P 1 → (n : ℕ) → n < 2 → P n
 both_of P a b zero lt = a
 both_of P a b (suc zero) lt = b
 both_of P a b (suc (suc n)) lt = absurd (omega arith)
 
-no_node : (s n : ℕ) → AtSwitch s ≡ AtNode n → ⊥
+pub no_node : (s n : ℕ) → AtSwitch s ≡ AtNode n → ⊥
 no_node s n e = cc
 
-node_is : (m n : ℕ) → AtNode m ≡ AtNode n → m ≡ n
+pub node_is : (m n : ℕ) → AtNode m ≡ AtNode n → m ≡ n
 node_is m n e = cc
 
 each_in : {A : Type 0} (P : A → Type 0) (l : List A) (x : A) → AllByRecursion P l → Contains l x → P x
@@ -41,7 +41,7 @@ each_in P [] x all h = absurd (none_in x h)
 each_in P (y ∷ l) x all (zero, lt, e) = subst P e all.0
 each_in P (y ∷ l) x all (suc k, lt, e) = each_in P l x all.1 (k, omega arith, e)
 
-named : (P : ℕ → Type 0) (rows : List Row) (h d : ℕ) → AllByRecursion (λ r. AllByRecursion P r.outs) rows → Contains (look_in rows h) d → P d
+pub named : (P : ℕ → Type 0) (rows : List Row) (h d : ℕ) → AllByRecursion (λ r. AllByRecursion P r.outs) rows → Contains (look_in rows h) d → P d
 named P [] h d all c = absurd (none_in d c)
 named P (r ∷ rows) h d all c = ⊎_elim
     (λ same. each_in P r.outs d all.0 (subst (λ t. Contains (if t then r.outs else look_in rows h) d) (eq-eqb r.byte h same) c))
@@ -163,49 +163,53 @@ misrouted_is_network = record {
 }
 
 -- what holds at each listed place
-abbrev EachPlace : (ℕ → Place → Type 0) → ℕ → Type 0
-EachPlace P i = AllByRecursion (P i) (unwrap_or (slice_get certificate.places i) [])
+module _ (cert : Certificate) where
+  abbrev pub EachPlace : (ℕ → Place → Type 0) → ℕ → Type 0
+  EachPlace P i = AllByRecursion (P i) (unwrap_or (slice_get cert.places i) [])
 
-listed_all : (P : ℕ → Place → Type 0) → EachPlace P 0 → EachPlace P 1 → (i c k : ℕ) → i < 2 → IsListed certificate i c k → P i (place c k)
-listed_all P a b zero c k lt h = each_in (P 0) (unwrap_or (slice_get certificate.places 0) []) (place c k) a h
-listed_all P a b (suc zero) c k lt h = each_in (P 1) (unwrap_or (slice_get certificate.places 1) []) (place c k) b h
-listed_all P a b (suc (suc i)) c k lt h = absurd (omega arith)
+  pub listed_one : (P : ℕ → Place → Type 0) (i : ℕ) → EachPlace P i → (c k : ℕ) → IsListed cert i c k → P i (place c k)
+  listed_one P i all c k h = each_in (P i) (unwrap_or (slice_get cert.places i) []) (place c k) all h
 
-faultless_switch : (i c k w : ℕ) → cell_at ends c ≡ AtSwitch w → k < length (flow i).address → sample.look w (header sample i k) ≢ [] → NoFault sample i c k
-faultless_switch i c k w at within some = record {
-  address = λ f. let e = f.ends in omega arith;
-  route = λ f. some (ap (λ s. sample.look s (header sample i k)) (switch_is w f.switch (sym at ∙ f.at)) ∙ f.unnamed);
-  node = λ f. no_node w f.node (sym at ∙ f.at);
-  left = λ f. no_node w (flow i).to (sym at ∙ f.at);
-}
+  pub listed_all : (P : ℕ → Place → Type 0) → EachPlace P 0 → EachPlace P 1 → (i c k : ℕ) → i < 2 → IsListed cert i c k → P i (place c k)
+  listed_all P a b i c k lt = both_of (λ i. (c k : ℕ) → IsListed cert i c k → P i (place c k)) (listed_one P 0 a) (listed_one P 1 b) i lt c k
 
-faultless_node : (i c k n : ℕ) → cell_at ends c ≡ AtNode n → n ≡ (flow i).to → length (flow i).address - k ≡ (flow i).left → NoFault sample i c k
-faultless_node i c k n at to left = record {
-  address = λ f. no_node f.switch n (sym f.at ∙ at);
-  route = λ f. no_node f.switch n (sym f.at ∙ at);
-  node = λ f. f.other (node_is f.node n (sym f.at ∙ at) ∙ to);
-  left = λ f. f.other left;
-}
+module _ (net : Network) where
+  pub faultless_switch : (i c k w : ℕ) → net.end_of c ≡ AtSwitch w → k < length (net.flow i).address → net.look w (header net i k) ≢ [] → NoFault net i c k
+  faultless_switch i c k w at within some = record {
+    address = λ f. let e = f.ends in omega arith;
+    route = λ f. some (ap (λ s. net.look s (header net i k)) (switch_is w f.switch (sym at ∙ f.at)) ∙ f.unnamed);
+    node = λ f. no_node w f.node (sym at ∙ f.at);
+    left = λ f. no_node w (net.flow i).to (sym at ∙ f.at);
+  }
+
+  pub faultless_node : (i c k n : ℕ) → net.end_of c ≡ AtNode n → n ≡ (net.flow i).to → length (net.flow i).address - k ≡ (net.flow i).left → NoFault net i c k
+  faultless_node i c k n at to left = record {
+    address = λ f. no_node f.switch n (sym f.at ∙ at);
+    route = λ f. no_node f.switch n (sym f.at ∙ at);
+    node = λ f. f.other (node_is f.node n (sym f.at ∙ at) ∙ to);
+    left = λ f. f.other left;
+  }
 
 -- what follows a place is listed, on a channel of a greater number
-abbrev Goes : ℕ → Place → Type 0
-Goes i p = (d m : ℕ) → Follows sample i p.channel p.deleted d m → IsListed certificate i d m × (number certificate p.channel < number certificate d)
+module _ (net : Network) (cert : Certificate) where
+  abbrev pub Goes : ℕ → Place → Type 0
+  Goes i p = (d m : ℕ) → Follows net i p.channel p.deleted d m → IsListed cert i d m × (number cert p.channel < number cert d)
 
-goes_switch : (i c k w m : ℕ) → cell_at ends c ≡ AtSwitch w → deleted_after sample i w k ≡ m → AllByRecursion (λ d. IsListed certificate i d m × (number certificate c < number certificate d)) (sample.look w (header sample i k)) → Goes i (place c k)
-goes_switch i c k w m at deleted all d n f =
-    let same : f.switch ≡ w = switch_is f.switch w (sym f.at ∙ at) in
-    let in_look : Contains (sample.look w (header sample i k)) d = subst (λ s. Contains (sample.look s (header sample i k)) d) same f.named in
-    let is : m ≡ n = sym deleted ∙ sym (f.deleted ∙ ap (λ s. deleted_after sample i s k) same) in
-    let r = each_in (λ d. IsListed certificate i d m × (number certificate c < number certificate d)) (sample.look w (header sample i k)) d all in_look in
-    (subst (IsListed certificate i d) is r.0, r.1)
+  pub goes_switch : (i c k w m : ℕ) → net.end_of c ≡ AtSwitch w → deleted_after net i w k ≡ m → AllByRecursion (λ d. IsListed cert i d m × (number cert c < number cert d)) (net.look w (header net i k)) → Goes i (place c k)
+  goes_switch i c k w m at deleted all d n f =
+      let same : f.switch ≡ w = switch_is f.switch w (sym f.at ∙ at) in
+      let in_look : Contains (net.look w (header net i k)) d = subst (λ s. Contains (net.look s (header net i k)) d) same f.named in
+      let is : m ≡ n = sym deleted ∙ sym (f.deleted ∙ ap (λ s. deleted_after net i s k) same) in
+      let r = each_in (λ d. IsListed cert i d m × (number cert c < number cert d)) (net.look w (header net i k)) d all in_look in
+      (subst (IsListed cert i d) is r.0, r.1)
 
-goes_node : (i c k n : ℕ) → cell_at ends c ≡ AtNode n → Goes i (place c k)
-goes_node i c k n at d m f = absurd (no_node f.switch n (sym f.at ∙ at))
+  pub goes_node : (i c k n : ℕ) → net.end_of c ≡ AtNode n → Goes i (place c k)
+  goes_node i c k n at d m f = absurd (no_node f.switch n (sym f.at ∙ at))
 
-all_go : (i c k : ℕ) → i < 2 → IsListed certificate i c k → Goes i (place c k)
-all_go = listed_all Goes
-    (goes_switch 0 0 0 0 0 refl refl (((1, omega arith, refl), omega arith), (((2, omega arith, refl), omega arith), tt)), (goes_switch 0 2 0 1 0 refl refl (((3, omega arith, refl), omega arith), tt), (goes_switch 0 4 0 1 0 refl refl (((3, omega arith, refl), omega arith), tt), (goes_node 0 6 0 1 refl, tt))))
-    (goes_switch 1 7 0 1 1 refl refl (((1, omega arith, refl), omega arith), tt), (goes_switch 1 5 1 0 2 refl refl (((2, omega arith, refl), omega arith), tt), (goes_node 1 1 2 0 refl, tt)))
+all_go : (i c k : ℕ) → i < 2 → IsListed certificate i c k → Goes sample certificate i (place c k)
+all_go = listed_all certificate (Goes sample certificate)
+    (goes_switch sample certificate 0 0 0 0 0 refl refl (((1, omega arith, refl), omega arith), (((2, omega arith, refl), omega arith), tt)), (goes_switch sample certificate 0 2 0 1 0 refl refl (((3, omega arith, refl), omega arith), tt), (goes_switch sample certificate 0 4 0 1 0 refl refl (((3, omega arith, refl), omega arith), tt), (goes_node sample certificate 0 6 0 1 refl, tt))))
+    (goes_switch sample certificate 1 7 0 1 1 refl refl (((1, omega arith, refl), omega arith), tt), (goes_switch sample certificate 1 5 1 0 2 refl refl (((2, omega arith, refl), omega arith), tt), (goes_node sample certificate 1 1 2 0 refl, tt)))
 
 target_rises : (i j : ℕ) → i < 2 → (flow i).reply ≡ Some j → number certificate (sample.into (flow i).to) < number certificate (sample.out (flow i).to)
 target_rises zero j lt e = omega arith
@@ -216,13 +220,13 @@ pub sample_is_accepted : IsAccepted sample certificate
 sample_is_accepted = record {
   channels = refl;
   flows = refl;
-  in_range = listed_all (λ i p. (p.channel < 8) × (p.deleted ≤ length (flow i).address))
+  in_range = listed_all certificate (λ i p. (p.channel < 8) × (p.deleted ≤ length (flow i).address))
       ((omega arith, omega arith), ((omega arith, omega arith), ((omega arith, omega arith), ((omega arith, omega arith), tt))))
       ((omega arith, omega arith), ((omega arith, omega arith), ((omega arith, omega arith), tt)));
   starts = both_of (λ i. IsListed certificate i (sample.out (flow i).from) 0) (0, omega arith, refl) (0, omega arith, refl);
-  faultless = listed_all (λ i p. NoFault sample i p.channel p.deleted)
-      (faultless_switch 0 0 0 0 refl (omega arith) (no_cons 2 (4 ∷ [])), (faultless_switch 0 2 0 1 refl (omega arith) (no_cons 6 []), (faultless_switch 0 4 0 1 refl (omega arith) (no_cons 6 []), (faultless_node 0 6 0 1 refl refl refl, tt))))
-      (faultless_switch 1 7 0 1 refl (omega arith) (no_cons 5 []), (faultless_switch 1 5 1 0 refl (omega arith) (no_cons 1 []), (faultless_node 1 1 2 0 refl refl refl, tt)));
+  faultless = listed_all certificate (λ i p. NoFault sample i p.channel p.deleted)
+      (faultless_switch sample 0 0 0 0 refl (omega arith) (no_cons 2 (4 ∷ [])), (faultless_switch sample 0 2 0 1 refl (omega arith) (no_cons 6 []), (faultless_switch sample 0 4 0 1 refl (omega arith) (no_cons 6 []), (faultless_node sample 0 6 0 1 refl refl refl, tt))))
+      (faultless_switch sample 1 7 0 1 refl (omega arith) (no_cons 5 []), (faultless_switch sample 1 5 1 0 refl (omega arith) (no_cons 1 []), (faultless_node sample 1 1 2 0 refl refl refl, tt)));
   closed = λ i c k d m lt listed f. (all_go i c k lt listed d m f).0;
   rising = λ i c k d m lt listed f. (all_go i c k lt listed d m f).1;
   targets = λ i j lt reply waits. target_rises i j lt reply;

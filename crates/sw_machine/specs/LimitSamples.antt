@@ -8,7 +8,7 @@ use Rattle.sw_machine.specs.Network.{AtNode, AtSwitch, Cell, Flow, Network}
 use Rattle.sw_machine.specs.Runs.{IsLockedUp, Run}
 use Rattle.sw_machine.specs.Sample.{Row, cell_at, look_in, place, row}
 use Rattle.sw_machine.specs.State.{State, empty}
-use Rattle.sw_machine.specs.Steps.{Accept, Arrive, Begin, Emit, Fct, FctIn, Forward, Grant, Reply, Step}
+use Rattle.sw_machine.specs.Steps.{Accept, Arrive, Begin, Emit, Forward, Grant, Reply, Step}
 use Rattle.sw_machine.specs.Witnesses.{fct}
 use Rattle.sw_rmap.specs.Owing.{PendingReply}
 

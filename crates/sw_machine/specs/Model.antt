@@ -5,7 +5,6 @@ use Rattle.sw_flow.specs.PlaceEnd.{PlaceEnd}
 use Rattle.sw_flow.specs.PlaceEnd.TheVariants.{Node, Switch}
 use Rattle.sw_flow.specs.Wiring.{out, partner}
 use Rattle.sw_rmap.specs.declared.config.TargetConfig.{TargetConfig}
-use Rattle.sw_rmap.specs.Answers.{answer}
 use Rattle.sw_rmap.specs.Replies.{reply_to}
 use Rattle.sw_flow.specs.Entries.{FlowEntry, Declaration, target_of, look_at, capacities, all_flows}
 use Rattle.sw_flow.specs.Limits.{is_limited, limit_at}
