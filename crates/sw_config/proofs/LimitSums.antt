@@ -1,14 +1,13 @@
 -- Sums of limits: with one more, or with one changed; and the table of the sums.
-use Rattle.std.proofs.Common.{◌≡◌, ◌≢◌, ℕ, zero, suc, ◌+◌, ◌-◌, ◌*◌, ◌<◌, ◌≤◌, Bool, true, false, cond, List, [], ◌∷◌, ◌++◌, length, map, filter, Option, Some, None, is_some, refl, sym, ap, ◌∙◌, inl, inr, arith}
+use Rattle.std.proofs.Common.{◌≡◌, ◌≢◌, ℕ, zero, suc, ◌+◌, ◌-◌, ◌*◌, ◌<◌, ◌≤◌, Bool, true, false, cond, List, [], ◌∷◌, ◌++◌, map, Option, Some, None, is_some, refl, sym, ap, ◌∙◌, inl, inr, arith}
 use Rattle.std.specs.Prelude.{IfSome, nat_eq, min, unwrap_or}
 use Rattle.std.specs.List.{range_with_len}
 use Rattle.std.specs.Map.{lookup}
 use Rattle.std.proofs.Math.Nat.{min-le_left, min-le_right, min-eq_left, min-eq_right, le-min}
-use Rattle.std.proofs.lemmas.Bool.{cases_eq, cases_lt, eq-eqb, ne_eqb, eqb-true, eqb-false, false≢true}
-use Rattle.std.proofs.lemmas.List.{map-append}
+use Rattle.std.proofs.lemmas.Bool.{cases_eq, cases_lt, eq-eqb, ne_eqb, eqb-true, false≢true}
 use Rattle.indexmap.specs.IndexMap.{insert_entry}
 use Rattle.sw_config.specs.Limits.{lesser, sum_of_limits}
-use Rattle.sw_config.specs.LimitRows.{plus, risen, growth, pair_key, sum_between}
+use Rattle.sw_config.specs.LimitRows.{plus, growth, pair_key, sum_between}
 
 -- ---- two limits
 
@@ -82,11 +81,11 @@ module _ (g h : ℕ → Option ℕ) (m : ℕ) (same : (k : ℕ) → k ≢ m → 
     }
     | inr other ↦
         let later = split_at (a + 1) n (omega (arith, low, other)) (omega (arith, high)) in record {
-      rest = plus (g a) later.rest;
-      before = sum_cons (g a) (map g (range_with_len (a + 1) n)) ∙ ap (plus (g a)) later.before ∙ plus-swap (g a) (g m) later.rest;
-      after = sum_cons (h a) (map h (range_with_len (a + 1) n)) ∙ ap (plus (h a)) later.after ∙ plus-swap (h a) (h m) later.rest
-          ∙ ap (λ x. plus (h m) (plus x later.rest)) (same a other);
-    }
+          rest = plus (g a) later.rest;
+          before = sum_cons (g a) (map g (range_with_len (a + 1) n)) ∙ ap (plus (g a)) later.before ∙ plus-swap (g a) (g m) later.rest;
+          after = sum_cons (h a) (map h (range_with_len (a + 1) n)) ∙ ap (plus (h a)) later.after ∙ plus-swap (h a) (h m) later.rest
+              ∙ ap (λ x. plus (h m) (plus x later.rest)) (same a other);
+        }
   ]
 
 -- ---- growth

@@ -1,23 +1,23 @@
 -- Which flows are limited, which nodes have a limit, and which may make others wait.
-use Rattle.std.proofs.Common.{◌≡◌, ◌≢◌, ℕ, zero, suc, ◌+◌, ◌*◌, ◌<◌, ◌≤◌, ◌==◌, ◌&&◌, ◌||◌, Bool, true, false, not, cond, List, [], ◌∷◌, ◌++◌, length, map, filter, get_or, All, Option, Some, None, is_some, refl, sym, subst, ap, ◌∙◌, inl, inr, arith, zero-add}
+use Rattle.std.proofs.Common.{◌≡◌, ℕ, zero, suc, ◌*◌, ◌<◌, ◌≤◌, ◌==◌, ◌&&◌, ◌||◌, Bool, true, false, not, cond, List, [], ◌∷◌, length, map, filter, get_or, All, Option, Some, None, is_some, refl, sym, subst, ap, ◌∙◌, inl, inr, arith, zero-add}
 use Rattle.std.specs.Prelude.{IfSome, slice_get, nat_lt, option_and_then, if◌then◌else◌}
 use Rattle.std.specs.List.{list_all, list_any, range_with_len}
 use Rattle.std.specs.Option.{option_map_or}
-use Rattle.std.proofs.Math.Bool.{and-true, or-false}
+use Rattle.std.proofs.Math.Bool.{and-true}
 use Rattle.std.proofs.lemmas.Bool.{and_from, and_parts, and_right, cases_lt, eq-eqb, false_from_ne_true, false≢true, or_right}
 use Rattle.std.proofs.lemmas.List.{get_or_past}
 use Rattle.std.proofs.lemmas.List.Folds.{Any-from_list_any}
 use Rattle.std.proofs.lemmas.List.FromFn.{get_or-map-range_with_len, length-map-range_with_len}
 use Rattle.std.proofs.lemmas.Option.{same_Some, slice_get_read}
 use Rattle.sw_rmap.specs.Targets.{slots_of}
-use Rattle.sw_config.specs.Entries.{NodeEntry, ReplyEntry, FlowEntry, Declaration, all_flows, answering_marks, is_answered_at, is_answering, reply_flows, target_of}
+use Rattle.sw_config.specs.Entries.{NodeEntry, FlowEntry, Declaration, all_flows, answering_marks, is_answered_at, is_answering, reply_flows, target_of}
 use Rattle.sw_config.specs.Limits.{lesser, sum_of_limits, outstanding_of, flow_outstanding, is_limited, commands_from, limit_from, limit_at, all_limited_at, always_takes, may_make_wait, waiting_marks, HasNoLimits}
-use Rattle.sw_config.specs.LimitRows.{LimitRows, plus, total_at, ends_unanswered, AreLimits}
+use Rattle.sw_config.specs.LimitRows.{LimitRows, total_at, ends_unanswered, AreLimits}
 use Rattle.sw_config.specs.Valid.{IsFlow, IsValid}
 use Rattle.sw_config.proofs.AnsweringNodes.{answering_within, declared_at}
 use Rattle.sw_config.proofs.Flows.{All-at}
 use Rattle.sw_config.proofs.FlowLaws.{replies_to}
-use Rattle.sw_config.proofs.LimitSums.{plus-none, some_after, some_before, sum_cons, SplitAt, split_at}
+use Rattle.sw_config.proofs.LimitSums.{some_after, some_before, sum_cons, SplitAt, split_at}
 
 -- ---- flows that are limited
 
@@ -33,7 +33,7 @@ each_limited test (g ∷ fs) zero f some at passes =
     let same : g ≡ f = same_Some g f at in
     let here : test g ≡ true = ap test same ∙ passes in
     let first : is_some (sum_of_limits (flow_outstanding g ∷ map flow_outstanding (filter test fs))) ≡ true =
-        ap (λ b. is_some (sum_of_limits (map flow_outstanding (cond b (g ∷ filter test fs) (filter test fs))))) (sym here) ∙ some in
+    ap (λ b. is_some (sum_of_limits (map flow_outstanding (cond b (g ∷ filter test fs) (filter test fs))))) (sym here) ∙ some in
     ap (λ x. is_some (flow_outstanding x)) (sym same)
     ∙ some_before (flow_outstanding g) (sum_of_limits (map flow_outstanding (filter test fs))) (ap is_some (sym (sum_cons (flow_outstanding g) (map flow_outstanding (filter test fs)))) ∙ first)
 each_limited test (g ∷ fs) (suc i) f some at passes = each_limited test fs i f (by (test g) some) at passes
@@ -57,7 +57,7 @@ module _ (d : Declaration) where
       let parts = and_parts (is_some f.reply) (f.to == n) answered in
       let total = (total_is (is_answering d n) (total_at d n) l limit).1 in
       let s : SplitAt (limit_from d n) (limit_from d n) f.from 0 (length d.nodes) =
-          split_at (limit_from d n) (limit_from d n) f.from (λ k other. refl) 0 (length d.nodes) (omega arith) (omega (arith, (All-at (IsFlow d.nodes) d.flows i f at flows).from)) in
+      split_at (limit_from d n) (limit_from d n) f.from (λ k other. refl) 0 (length d.nodes) (omega arith) (omega (arith, (All-at (IsFlow d.nodes) d.flows i f at flows).from)) in
       let one : is_some (limit_from d n f.from) ≡ true = some_before (limit_from d n f.from) s.rest (ap is_some (sym s.before ∙ total)) in
       and_from (is_some f.reply) (is_some (flow_outstanding f) || is_some own) parts.0
       (by own (sum_of_limits (map flow_outstanding (commands_from d f.from n))) one
@@ -175,7 +175,7 @@ module _ (d : Declaration) where
         → (nat_lt l slots || l == slots && not others) ≡ always_takes d n
     takes_told n l slots others limit are told =
         let all : not others ≡ all_limited_at d n =
-            ap not (told ∙ a.others n (within_limit n l limit)) ∙ sym (limited_unless_unanswered valid.flows n l limit) in
+        ap not (told ∙ a.others n (within_limit n l limit)) ∙ sym (limited_unless_unanswered valid.flows n l limit) in
         (λ i. nat_lt l (are i) || l == are i && all i)
         ∙ sym (ap (λ o. option_map_or (λ k. nat_lt k (slots_of (target_of d.nodes n)) || k == slots_of (target_of d.nodes n) && all_limited_at d n) o false) limit)
 

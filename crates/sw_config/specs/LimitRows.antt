@@ -4,7 +4,7 @@ use Rattle.std.specs.Prelude.{Some, None, is_some, IfSome, option_map, unwrap_or
 use Rattle.std.specs.List.{list_any, range_with_len}
 use Rattle.std.specs.Map.{lookup}
 use Rattle.indexmap.specs.IndexMap.{insert_entry}
-use Rattle.sw_config.specs.Entries.{NodeEntry, ReplyEntry, FlowEntry, Declaration, all_flows, is_answering}
+use Rattle.sw_config.specs.Entries.{ReplyEntry, FlowEntry, Declaration, all_flows, is_answering}
 use Rattle.sw_config.specs.Limits.{lesser, sum_of_limits, flow_outstanding, commands_from, limit_from}
 
 -- By node: whether it answers commands, whether a flow without replies ends there, and how many commands may be unanswered there; and by the
