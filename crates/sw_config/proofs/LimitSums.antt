@@ -1,5 +1,6 @@
 -- Sums of limits: with one more, or with one changed; and the table of the sums.
-use Rattle.std.proofs.Common.{◌≡◌, ◌≢◌, ℕ, zero, suc, ◌+◌, ◌-◌, ◌*◌, ◌<◌, ◌≤◌, Bool, true, false, cond, List, [], ◌∷◌, ◌++◌, map, Option, Some, None, is_some, refl, sym, ap, ◌∙◌, inl, inr, arith}
+use Rattle.std.proofs.Common.{◌≡◌, ◌≢◌, ℕ, zero, suc, ◌+◌, ◌-◌, ◌*◌, ◌<◌, ◌≤◌, Bool, true, false, cond, List, [], ◌∷◌, ◌++◌, map, Option, Some, None, is_some}
+use Rattle.std.proofs.Common.{refl, sym, ap, ◌∙◌, inl, inr, arith}
 use Rattle.std.specs.Prelude.{IfSome, nat_eq, min, unwrap_or}
 use Rattle.std.specs.List.{range_with_len}
 use Rattle.std.specs.Map.{lookup}
@@ -115,7 +116,8 @@ small_more l p o = elim (cases_lt l p) [
 ]
 
 -- by no more than one of the two limits
-pub small_growth : (own sum outstanding : Option ℕ) → IfSome own (λ l. l ≤ 65535) → IfSome outstanding (λ l. l ≤ 65535) → IfSome (growth own sum outstanding) (λ l. l ≤ 65535)
+pub small_growth : (own sum outstanding : Option ℕ) → IfSome own (λ l. l ≤ 65535) → IfSome outstanding (λ l. l ≤ 65535)
+    → IfSome (growth own sum outstanding) (λ l. l ≤ 65535)
 small_growth None None o own_small small = tt
 small_growth None (Some p) None own_small small = tt
 small_growth None (Some p) (Some o) own_small small = omega (arith, small)
@@ -140,7 +142,8 @@ module _ (k : ℕ) (v : Option ℕ) where
   inserted_here [] = ap (λ b. cond b (Some v) None) (eq-eqb k k refl)
   inserted_here (e ∷ es) = by (nat_eq k e.0) refl (inserted_here es)
     where
-      by : (b : Bool) → nat_eq k e.0 ≡ b → lookup (nat_eq k) (insert_entry nat_eq es k v) ≡ Some v → lookup (nat_eq k) (cond b ((e.0, v) ∷ es) (e ∷ insert_entry nat_eq es k v)) ≡ Some v
+      by : (b : Bool) → nat_eq k e.0 ≡ b → lookup (nat_eq k) (insert_entry nat_eq es k v) ≡ Some v
+          → lookup (nat_eq k) (cond b ((e.0, v) ∷ es) (e ∷ insert_entry nat_eq es k v)) ≡ Some v
       by true is rest = ap (λ b. cond b (Some v) (lookup (nat_eq k) es)) is
       by false is rest = ap (λ b. cond b (Some e.1) (lookup (nat_eq k) (insert_entry nat_eq es k v))) is ∙ rest
 
@@ -148,7 +151,8 @@ module _ (k : ℕ) (v : Option ℕ) where
   inserted_other q apart [] = ap (λ b. cond b (Some v) None) (ne_eqb q k apart)
   inserted_other q apart (e ∷ es) = by (nat_eq k e.0) refl (inserted_other q apart es)
     where
-      by : (b : Bool) → nat_eq k e.0 ≡ b → lookup (nat_eq q) (insert_entry nat_eq es k v) ≡ lookup (nat_eq q) es → lookup (nat_eq q) (cond b ((e.0, v) ∷ es) (e ∷ insert_entry nat_eq es k v)) ≡ lookup (nat_eq q) (e ∷ es)
+      by : (b : Bool) → nat_eq k e.0 ≡ b → lookup (nat_eq q) (insert_entry nat_eq es k v) ≡ lookup (nat_eq q) es
+          → lookup (nat_eq q) (cond b ((e.0, v) ∷ es) (e ∷ insert_entry nat_eq es k v)) ≡ lookup (nat_eq q) (e ∷ es)
       by true is rest =
           let no : nat_eq q e.0 ≡ false = ne_eqb q e.0 (λ s. apart (s ∙ sym (eqb-true k e.0 is))) in
           ap (λ b. cond b (Some v) (lookup (nat_eq q) es)) no ∙ sym (ap (λ b. cond b (Some e.1) (lookup (nat_eq q) es)) no)
