@@ -1,5 +1,7 @@
 -- What a network keeps for its limits, with one flow more.
-use Rattle.std.proofs.Common.{◌≡◌, ◌≢◌, ℕ, zero, suc, ◌+◌, ◌*◌, ◌<◌, ◌≤◌, ◌==◌, ◌&&◌, ◌||◌, Bool, true, false, not, cond, List, [], ◌∷◌, ◌++◌, length, map, filter, replicate, set, get_or, All, Option, Some, None, is_some, refl, sym, subst, ap, ◌∙◌, inl, inr, arith, length-append, length-set, get_or-set_same, get_or-set_other}
+use Rattle.std.proofs.Common.{◌≡◌, ◌≢◌, ℕ, zero, suc, ◌+◌, ◌*◌, ◌<◌, ◌≤◌, ◌==◌, ◌&&◌, ◌||◌, Bool, true, false, not, cond, List, [], ◌∷◌, ◌++◌, length, map}
+use Rattle.std.proofs.Common.{filter, replicate, set, get_or, All, Option, Some, None, is_some, refl, sym, subst, ap, ◌∙◌, inl, inr, arith, length-append}
+use Rattle.std.proofs.Common.{length-set, get_or-set_same, get_or-set_other}
 use Rattle.std.specs.Prelude.{IfSome, min, nat_eq, option_and_then, slice_get, unwrap_or, if◌then◌else◌}
 use Rattle.std.specs.List.{list_any, range_with_len}
 use Rattle.std.proofs.Math.Bool.{or-false}
@@ -10,12 +12,14 @@ use Rattle.std.proofs.lemmas.List.Elements.{filter-append}
 use Rattle.std.proofs.lemmas.List.Folds.{list_any-append}
 use Rattle.std.specs.Map.{lookup}
 use Rattle.indexmap.specs.IndexMap.{insert_entry}
-use Rattle.sw_config.specs.Entries.{NodeEntry, ReplyEntry, FlowEntry, Declaration, all_flows, reply_flow, replies_of, reply_flows, is_answered_at, is_answering}
+use Rattle.sw_config.specs.Entries.{NodeEntry, ReplyEntry, FlowEntry, Declaration, all_flows, replies_of, reply_flows, is_answered_at, is_answering}
 use Rattle.sw_config.specs.Limits.{lesser, sum_of_limits, outstanding_of, flow_outstanding, commands_from, limit_from}
-use Rattle.sw_config.specs.LimitRows.{LimitRows, plus, growth, pair_key, sum_between, total_after, sums_after, no_limits, with_reply, with_flow, AreSmall, total_at, ends_unanswered, AreLimits}
+use Rattle.sw_config.specs.LimitRows.{LimitRows, plus, growth, pair_key, sum_between, total_after, no_limits, with_reply, with_flow, AreSmall, total_at}
+use Rattle.sw_config.specs.LimitRows.{ends_unanswered, AreLimits}
 use Rattle.sw_config.specs.Valid.{IsOutstanding, IsNode, IsReply, IsFlow}
 use Rattle.sw_config.proofs.Flows.{All-at, reply_flows-push}
-use Rattle.sw_config.proofs.LimitSums.{plus-none, some_before, sum_push, SplitAt, split_at, rises, small_growth, small_plus, small_still, sum_inserted, sum_kept, other_end, other_start}
+use Rattle.sw_config.proofs.LimitSums.{some_before, sum_push, SplitAt, split_at, rises, small_growth, small_plus, small_still, sum_inserted, sum_kept}
+use Rattle.sw_config.proofs.LimitSums.{other_end, other_start}
 
 -- ---- marks
 
@@ -52,7 +56,8 @@ module _ (d : Declaration) (f : FlowEntry) where
   others_more n =
       let test = ends_unanswered n in
       list_any-append test (d.flows ++ f ∷ []) (reply_flows (d.flows ++ f ∷ []))
-      ∙ (λ i. any_push test d.flows f i || (ap (list_any test) (reply_flows-push d.flows f) ∙ list_any-append test (reply_flows d.flows) (replies_of f f.reply)) i)
+      ∙ (λ i. any_push test d.flows f i ||
+      (ap (list_any test) (reply_flows-push d.flows f) ∙ list_any-append test (reply_flows d.flows) (replies_of f f.reply)) i)
       ∙ any_swap (list_any test d.flows) (test f) (list_any test (reply_flows d.flows)) (list_any test (replies_of f f.reply))
       ∙ ap (λ b. b || (test f || list_any test (replies_of f f.reply))) (sym (list_any-append test d.flows (reply_flows d.flows)))
 
@@ -61,7 +66,9 @@ module _ (d : Declaration) (f : FlowEntry) where
   abbrev between : Declaration → ℕ → ℕ → Option ℕ
   between e m n = sum_of_limits (map flow_outstanding (commands_from e m n))
 
-  between_push : (m n : ℕ) → between More m n ≡ sum_of_limits (map flow_outstanding (commands_from d m n) ++ map flow_outstanding (cond (is_answered_at n f && f.from == m) (f ∷ []) []))
+  between_push : (m n : ℕ)
+      → between More m n ≡ sum_of_limits
+      (map flow_outstanding (commands_from d m n) ++ map flow_outstanding (cond (is_answered_at n f && f.from == m) (f ∷ []) []))
   between_push m n =
       let test = λ (g : FlowEntry). is_answered_at n g && g.from == m in
       ap (λ (gs : List FlowEntry). sum_of_limits (map flow_outstanding gs)) (filter-append test d.flows (f ∷ []))
@@ -93,9 +100,9 @@ module _ (d : Declaration) (f : FlowEntry) where
       let own = outstanding_of d.nodes f.from in
       let apart = λ (m : ℕ) (other : m ≢ f.from). limit_kept n m (ap (λ b. b && f.from == m) here ∙ ne_eqb f.from m (λ e. other (sym e))) in
       let s : SplitAt (limit_from d n) (limit_from More n) f.from 0 (length d.nodes) =
-          split_at (limit_from d n) (limit_from More n) f.from apart 0 (length d.nodes) (omega arith) (omega (arith, within)) in
+      split_at (limit_from d n) (limit_from More n) f.from apart 0 (length d.nodes) (omega arith) (omega (arith, within)) in
       let same : limit_from More n f.from ≡ lesser own (plus (between d f.from n) (flow_outstanding f)) =
-          ap (lesser own) (between_more f.from n (ap (λ b. b && f.from == f.from) here ∙ eq-eqb f.from f.from refl)) in
+      ap (lesser own) (between_more f.from n (ap (λ b. b && f.from == f.from) here ∙ eq-eqb f.from f.from refl)) in
       ap (λ x. plus x (growth own (between d f.from n) (flow_outstanding f))) s.before
       ∙ rises own (between d f.from n) (flow_outstanding f) s.rest
       ∙ ap (λ x. plus x s.rest) (sym same) ∙ sym s.after
@@ -124,27 +131,28 @@ module _ (d : Declaration) (f : FlowEntry) (t : LimitRows) (a : AreLimits d t) (
   unanswered_more : f.reply ≡ None → AreLimits (More d f) (record t { others = set t.others f.to true })
   unanswered_more none =
       let here = λ (n : ℕ). ap (λ (o : Option ReplyEntry). is_some o && f.to == n) none in record {
-    few_nodes = a.few_nodes;
-    answering_size = a.answering_size;
-    others_size = length-set t.others f.to true ∙ a.others_size;
-    totals_size = a.totals_size;
-    answering = λ n lt. a.answering n lt ∙ sym (answering_more d f n ∙ ap (λ b. is_answering d n || b) (here n) ∙ or-false (is_answering d n));
-    others = λ n lt.
-        mark_more t.others f.to n (omega (arith, to, a.others_size))
-        ∙ ap (λ b. b || f.to == n) (a.others n lt)
-        ∙ sym (others_more d f n
-        ∙ (λ i. list_any (ends_unanswered n) (all_flows d) || (f.to == n && not (is_some (none i)) || list_any (ends_unanswered n) (replies_of f (none i))))
-        ∙ ap (λ b. list_any (ends_unanswered n) (all_flows d) || b) (plain_end (f.to == n)));
-    totals = λ n lt. a.totals n lt ∙ sym (total_kept d f n (here n));
-    sums = λ m n m_lt n_lt some. a.sums m n m_lt n_lt some ∙ sym (between_kept d f m n (ap (λ b. b && f.from == m) (here n)));
-    small = small_more (record t { others = set t.others f.to true }) (record {
-      totals = λ n. small_still (length d.flows) (get_or t.totals n None) (a.small.totals n);
-      sums = λ m n. small_still (length d.flows) (sum_between t.sums m n) (a.small.sums m n);
-    });
-  }
+        few_nodes = a.few_nodes;
+        answering_size = a.answering_size;
+        others_size = length-set t.others f.to true ∙ a.others_size;
+        totals_size = a.totals_size;
+        answering = λ n lt. a.answering n lt ∙ sym (answering_more d f n ∙ ap (λ b. is_answering d n || b) (here n) ∙ or-false (is_answering d n));
+        others = λ n lt.
+            mark_more t.others f.to n (omega (arith, to, a.others_size))
+            ∙ ap (λ b. b || f.to == n) (a.others n lt)
+            ∙ sym (others_more d f n
+            ∙ (λ i. list_any (ends_unanswered n) (all_flows d) || (f.to == n && not (is_some (none i)) || list_any (ends_unanswered n) (replies_of f (none i))))
+            ∙ ap (λ b. list_any (ends_unanswered n) (all_flows d) || b) (plain_end (f.to == n)));
+        totals = λ n lt. a.totals n lt ∙ sym (total_kept d f n (here n));
+        sums = λ m n m_lt n_lt some. a.sums m n m_lt n_lt some ∙ sym (between_kept d f m n (ap (λ b. b && f.from == m) (here n)));
+        small = small_more (record t { others = set t.others f.to true }) (record {
+          totals = λ n. small_still (length d.flows) (get_or t.totals n None) (a.small.totals n);
+          sums = λ m n. small_still (length d.flows) (sum_between t.sums m n) (a.small.sums m n);
+        });
+      }
 
   -- its packets are commands
-  module _ (r : ReplyEntry) (has : f.reply ≡ Some r) (own_small : IfSome (outstanding_of d.nodes f.from) (λ l. l ≤ 65535)) (small : IfSome r.outstanding (λ l. l ≤ 65535)) where
+  module _ (r : ReplyEntry) (has : f.reply ≡ Some r) (own_small : IfSome (outstanding_of d.nodes f.from) (λ l. l ≤ 65535))
+      (small : IfSome r.outstanding (λ l. l ≤ 65535)) where
     abbrev own : Option ℕ
     own = outstanding_of d.nodes f.from
 
@@ -194,7 +202,8 @@ module _ (d : Declaration) (f : FlowEntry) (t : LimitRows) (a : AreLimits d t) (
     sum_at b m n known m_lt n_lt some = elim (cases_eq n f.to) [
       | inl same ↦
           let counted : is_some total ≡ true =
-              ap is_some (sym (ap (λ k. get_or (set t.totals f.to total) k None) same ∙ get_or-set_same t.totals f.to total None (omega (arith, to, a.totals_size)))) ∙ some in
+          ap is_some (sym (ap (λ k. get_or (set t.totals f.to total) k None) same ∙ get_or-set_same t.totals f.to total None
+          (omega (arith, to, a.totals_size)))) ∙ some in
           let before : is_some (get_or t.totals f.to None) ≡ true = some_before (get_or t.totals f.to None) _ counted in
           elim (cases_eq m f.from) [
             | inl start ↦
@@ -273,6 +282,7 @@ own_small nodes n all = by (slice_get nodes n) refl
     high : (o : Option ℕ) → IfSome o IsOutstanding → IfSome o (λ l. l ≤ 65535)
     high None is = tt
     high (Some l) is = is.high
+
     by : (o : Option NodeEntry) → slice_get nodes n ≡ o → IfSome (option_and_then (λ (e : NodeEntry). e.outstanding) o) (λ l. l ≤ 65535)
     by None at = tt
     by (Some e) at = high e.outstanding (All-at IsNode nodes n e at all).outstanding
@@ -306,18 +316,19 @@ sum_zeros g zeros a (suc n) =
     ap (λ l. sum_of_limits (l ∷ map g (range_with_len (a + 1) n))) (zeros a) ∙ ap (λ s. plus (Some 0) s) (sum_zeros g zeros (a + 1) n)
 
 pub no_limits_yet : (d : Declaration) (n : ℕ) → n ≡ length d.nodes → length d.nodes ≤ 1024 → d.flows ≡ [] → AreLimits d (no_limits n)
-no_limits_yet d n size few none = subst (λ k. AreLimits d (no_limits k)) (sym size) (subst (λ fs. AreLimits (record d { flows = fs }) (no_limits (length d.nodes))) (sym none) (record {
-  few_nodes = few;
-  answering_size = length-replicate (length d.nodes) false;
-  others_size = length-replicate (length d.nodes) false;
-  totals_size = length-replicate (length d.nodes) (Some 0);
-  answering = λ k lt. get_or-replicate (length d.nodes) k false false lt;
-  others = λ k lt. get_or-replicate (length d.nodes) k false false lt;
-  totals = λ k lt. get_or-replicate (length d.nodes) k (Some 0) None lt
-      ∙ sym (sum_zeros (limit_from (record d { flows = [] }) k) (λ m. no_commands (outstanding_of d.nodes m)) 0 (length d.nodes));
-  sums = λ m k m_lt k_lt some. refl;
-  small = record { totals = λ k. zero_small k; sums = λ m k. omega arith };
-}))
+no_limits_yet d n size few none = subst (λ k. AreLimits d (no_limits k)) (sym size)
+    (subst (λ fs. AreLimits (record d { flows = fs }) (no_limits (length d.nodes))) (sym none) (record {
+      few_nodes = few;
+      answering_size = length-replicate (length d.nodes) false;
+      others_size = length-replicate (length d.nodes) false;
+      totals_size = length-replicate (length d.nodes) (Some 0);
+      answering = λ k lt. get_or-replicate (length d.nodes) k false false lt;
+      others = λ k lt. get_or-replicate (length d.nodes) k false false lt;
+      totals = λ k lt. get_or-replicate (length d.nodes) k (Some 0) None lt
+          ∙ sym (sum_zeros (limit_from (record d { flows = [] }) k) (λ m. no_commands (outstanding_of d.nodes m)) 0 (length d.nodes));
+      sums = λ m k m_lt k_lt some. refl;
+      small = record { totals = λ k. zero_small k; sums = λ m k. omega arith };
+    }))
   where
     zero_small : (k : ℕ) → IfSome (get_or (replicate (length d.nodes) (Some 0)) k None) (λ l. l ≤ 0 * 65535)
     zero_small k = elim (cases_lt k (length d.nodes)) [

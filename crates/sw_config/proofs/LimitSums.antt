@@ -1,14 +1,14 @@
 -- Sums of limits: with one more, or with one changed; and the table of the sums.
-use Rattle.std.proofs.Common.{◌≡◌, ◌≢◌, ℕ, zero, suc, ◌+◌, ◌-◌, ◌*◌, ◌<◌, ◌≤◌, Bool, true, false, cond, List, [], ◌∷◌, ◌++◌, length, map, filter, Option, Some, None, is_some, refl, sym, ap, ◌∙◌, inl, inr, arith}
+use Rattle.std.proofs.Common.{◌≡◌, ◌≢◌, ℕ, zero, suc, ◌+◌, ◌-◌, ◌*◌, ◌<◌, ◌≤◌, Bool, true, false, cond, List, [], ◌∷◌, ◌++◌, map, Option, Some, None, is_some}
+use Rattle.std.proofs.Common.{refl, sym, ap, ◌∙◌, inl, inr, arith}
 use Rattle.std.specs.Prelude.{IfSome, nat_eq, min, unwrap_or}
 use Rattle.std.specs.List.{range_with_len}
 use Rattle.std.specs.Map.{lookup}
 use Rattle.std.proofs.Math.Nat.{min-le_left, min-le_right, min-eq_left, min-eq_right, le-min}
-use Rattle.std.proofs.lemmas.Bool.{cases_eq, cases_lt, eq-eqb, ne_eqb, eqb-true, eqb-false, false≢true}
-use Rattle.std.proofs.lemmas.List.{map-append}
+use Rattle.std.proofs.lemmas.Bool.{cases_eq, cases_lt, eq-eqb, ne_eqb, eqb-true, false≢true}
 use Rattle.indexmap.specs.IndexMap.{insert_entry}
 use Rattle.sw_config.specs.Limits.{lesser, sum_of_limits}
-use Rattle.sw_config.specs.LimitRows.{plus, risen, growth, pair_key, sum_between}
+use Rattle.sw_config.specs.LimitRows.{plus, growth, pair_key, sum_between}
 
 -- ---- two limits
 
@@ -82,11 +82,11 @@ module _ (g h : ℕ → Option ℕ) (m : ℕ) (same : (k : ℕ) → k ≢ m → 
     }
     | inr other ↦
         let later = split_at (a + 1) n (omega (arith, low, other)) (omega (arith, high)) in record {
-      rest = plus (g a) later.rest;
-      before = sum_cons (g a) (map g (range_with_len (a + 1) n)) ∙ ap (plus (g a)) later.before ∙ plus-swap (g a) (g m) later.rest;
-      after = sum_cons (h a) (map h (range_with_len (a + 1) n)) ∙ ap (plus (h a)) later.after ∙ plus-swap (h a) (h m) later.rest
-          ∙ ap (λ x. plus (h m) (plus x later.rest)) (same a other);
-    }
+          rest = plus (g a) later.rest;
+          before = sum_cons (g a) (map g (range_with_len (a + 1) n)) ∙ ap (plus (g a)) later.before ∙ plus-swap (g a) (g m) later.rest;
+          after = sum_cons (h a) (map h (range_with_len (a + 1) n)) ∙ ap (plus (h a)) later.after ∙ plus-swap (h a) (h m) later.rest
+              ∙ ap (λ x. plus (h m) (plus x later.rest)) (same a other);
+        }
   ]
 
 -- ---- growth
@@ -116,7 +116,8 @@ small_more l p o = elim (cases_lt l p) [
 ]
 
 -- by no more than one of the two limits
-pub small_growth : (own sum outstanding : Option ℕ) → IfSome own (λ l. l ≤ 65535) → IfSome outstanding (λ l. l ≤ 65535) → IfSome (growth own sum outstanding) (λ l. l ≤ 65535)
+pub small_growth : (own sum outstanding : Option ℕ) → IfSome own (λ l. l ≤ 65535) → IfSome outstanding (λ l. l ≤ 65535)
+    → IfSome (growth own sum outstanding) (λ l. l ≤ 65535)
 small_growth None None o own_small small = tt
 small_growth None (Some p) None own_small small = tt
 small_growth None (Some p) (Some o) own_small small = omega (arith, small)
@@ -141,7 +142,8 @@ module _ (k : ℕ) (v : Option ℕ) where
   inserted_here [] = ap (λ b. cond b (Some v) None) (eq-eqb k k refl)
   inserted_here (e ∷ es) = by (nat_eq k e.0) refl (inserted_here es)
     where
-      by : (b : Bool) → nat_eq k e.0 ≡ b → lookup (nat_eq k) (insert_entry nat_eq es k v) ≡ Some v → lookup (nat_eq k) (cond b ((e.0, v) ∷ es) (e ∷ insert_entry nat_eq es k v)) ≡ Some v
+      by : (b : Bool) → nat_eq k e.0 ≡ b → lookup (nat_eq k) (insert_entry nat_eq es k v) ≡ Some v
+          → lookup (nat_eq k) (cond b ((e.0, v) ∷ es) (e ∷ insert_entry nat_eq es k v)) ≡ Some v
       by true is rest = ap (λ b. cond b (Some v) (lookup (nat_eq k) es)) is
       by false is rest = ap (λ b. cond b (Some e.1) (lookup (nat_eq k) (insert_entry nat_eq es k v))) is ∙ rest
 
@@ -149,7 +151,8 @@ module _ (k : ℕ) (v : Option ℕ) where
   inserted_other q apart [] = ap (λ b. cond b (Some v) None) (ne_eqb q k apart)
   inserted_other q apart (e ∷ es) = by (nat_eq k e.0) refl (inserted_other q apart es)
     where
-      by : (b : Bool) → nat_eq k e.0 ≡ b → lookup (nat_eq q) (insert_entry nat_eq es k v) ≡ lookup (nat_eq q) es → lookup (nat_eq q) (cond b ((e.0, v) ∷ es) (e ∷ insert_entry nat_eq es k v)) ≡ lookup (nat_eq q) (e ∷ es)
+      by : (b : Bool) → nat_eq k e.0 ≡ b → lookup (nat_eq q) (insert_entry nat_eq es k v) ≡ lookup (nat_eq q) es
+          → lookup (nat_eq q) (cond b ((e.0, v) ∷ es) (e ∷ insert_entry nat_eq es k v)) ≡ lookup (nat_eq q) (e ∷ es)
       by true is rest =
           let no : nat_eq q e.0 ≡ false = ne_eqb q e.0 (λ s. apart (s ∙ sym (eqb-true k e.0 is))) in
           ap (λ b. cond b (Some v) (lookup (nat_eq q) es)) no ∙ sym (ap (λ b. cond b (Some e.1) (lookup (nat_eq q) es)) no)

@@ -1,28 +1,32 @@
 -- Which flows are limited, which nodes have a limit, and which may make others wait.
-use Rattle.std.proofs.Common.{◌≡◌, ◌≢◌, ℕ, zero, suc, ◌+◌, ◌*◌, ◌<◌, ◌≤◌, ◌==◌, ◌&&◌, ◌||◌, Bool, true, false, not, cond, List, [], ◌∷◌, ◌++◌, length, map, filter, get_or, All, Option, Some, None, is_some, refl, sym, subst, ap, ◌∙◌, inl, inr, arith, zero-add}
+use Rattle.std.proofs.Common.{◌≡◌, ℕ, zero, ◌⊎◌, suc, ◌*◌, ◌<◌, ◌≤◌, ◌==◌, ◌&&◌, ◌||◌, Bool, true, false, not, cond, List, [], ◌∷◌, length, map, filter}
+use Rattle.std.proofs.Common.{get_or, All, Option, Some, None, is_some, refl, sym, subst, ap, ◌∙◌, inl, inr, arith, zero-add}
 use Rattle.std.specs.Prelude.{IfSome, slice_get, nat_lt, option_and_then, if◌then◌else◌}
 use Rattle.std.specs.List.{list_all, list_any, range_with_len}
 use Rattle.std.specs.Option.{option_map_or}
-use Rattle.std.proofs.Math.Bool.{and-true, or-false}
-use Rattle.std.proofs.lemmas.Bool.{and_from, and_parts, and_right, cases_lt, eq-eqb, false_from_ne_true, false≢true, or_right}
+use Rattle.std.proofs.Math.Bool.{and-true}
+use Rattle.std.proofs.lemmas.Bool.{and_from, and_parts, and_right, cases_lt, eq-eqb, eqb-true, false_from_ne_true, false≢true, ltb-true, or_cases, or_right}
 use Rattle.std.proofs.lemmas.List.{get_or_past}
 use Rattle.std.proofs.lemmas.List.Folds.{Any-from_list_any}
+use Rattle.std.proofs.lemmas.List.Sums.{AllPass-from_list_all}
 use Rattle.std.proofs.lemmas.List.FromFn.{get_or-map-range_with_len, length-map-range_with_len}
 use Rattle.std.proofs.lemmas.Option.{same_Some, slice_get_read}
 use Rattle.sw_rmap.specs.Targets.{slots_of}
-use Rattle.sw_config.specs.Entries.{NodeEntry, ReplyEntry, FlowEntry, Declaration, all_flows, answering_marks, is_answered_at, is_answering, reply_flows, target_of}
-use Rattle.sw_config.specs.Limits.{lesser, sum_of_limits, outstanding_of, flow_outstanding, is_limited, commands_from, limit_from, limit_at, all_limited_at, always_takes, may_make_wait, waiting_marks, HasNoLimits}
-use Rattle.sw_config.specs.LimitRows.{LimitRows, plus, total_at, ends_unanswered, AreLimits}
+use Rattle.sw_config.specs.Entries.{NodeEntry, FlowEntry, Declaration, all_flows, answering_marks, is_answered_at, is_answering, reply_flows, target_of}
+use Rattle.sw_config.specs.Limits.{lesser, sum_of_limits, outstanding_of, flow_outstanding, is_limited, commands_from, limit_from, limit_at, all_limited_at}
+use Rattle.sw_config.specs.Limits.{always_takes, may_make_wait, waiting_marks, HasNoLimits}
+use Rattle.sw_config.specs.LimitRows.{LimitRows, total_at, ends_unanswered, AreLimits}
 use Rattle.sw_config.specs.Valid.{IsFlow, IsValid}
 use Rattle.sw_config.proofs.AnsweringNodes.{answering_within, declared_at}
 use Rattle.sw_config.proofs.Flows.{All-at}
 use Rattle.sw_config.proofs.FlowLaws.{replies_to}
-use Rattle.sw_config.proofs.LimitSums.{plus-none, some_after, some_before, sum_cons, SplitAt, split_at}
+use Rattle.sw_config.proofs.LimitSums.{some_after, some_before, sum_cons, SplitAt, split_at}
 
 -- ---- flows that are limited
 
 -- a flow of replies is not
-pub reply_flow_unlimited : (nodes : List NodeEntry) (fs : List FlowEntry) (k : ℕ) (f : FlowEntry) → slice_get (reply_flows fs) k ≡ Some f → is_limited nodes f ≡ false
+pub reply_flow_unlimited : (nodes : List NodeEntry) (fs : List FlowEntry) (k : ℕ) (f : FlowEntry) → slice_get (reply_flows fs) k ≡ Some f
+    → is_limited nodes f ≡ false
 reply_flow_unlimited nodes fs k f at = let is = replies_to fs k f at in ap (is_limited nodes) is.same
 
 -- each summand of a sum of limits is a limit
@@ -33,15 +37,24 @@ each_limited test (g ∷ fs) zero f some at passes =
     let same : g ≡ f = same_Some g f at in
     let here : test g ≡ true = ap test same ∙ passes in
     let first : is_some (sum_of_limits (flow_outstanding g ∷ map flow_outstanding (filter test fs))) ≡ true =
-        ap (λ b. is_some (sum_of_limits (map flow_outstanding (cond b (g ∷ filter test fs) (filter test fs))))) (sym here) ∙ some in
+    ap (λ b. is_some (sum_of_limits (map flow_outstanding (cond b (g ∷ filter test fs) (filter test fs))))) (sym here) ∙ some in
     ap (λ x. is_some (flow_outstanding x)) (sym same)
-    ∙ some_before (flow_outstanding g) (sum_of_limits (map flow_outstanding (filter test fs))) (ap is_some (sym (sum_cons (flow_outstanding g) (map flow_outstanding (filter test fs)))) ∙ first)
+    ∙ some_before (flow_outstanding g) (sum_of_limits (map flow_outstanding (filter test fs)))
+    (ap is_some (sym (sum_cons (flow_outstanding g) (map flow_outstanding (filter test fs)))) ∙ first)
 each_limited test (g ∷ fs) (suc i) f some at passes = each_limited test fs i f (by (test g) some) at passes
   where
-    by : (b : Bool) → is_some (sum_of_limits (map flow_outstanding (cond b (g ∷ filter test fs) (filter test fs)))) ≡ true → is_some (sum_of_limits (map flow_outstanding (filter test fs))) ≡ true
+    by : (b : Bool) → is_some (sum_of_limits (map flow_outstanding (cond b (g ∷ filter test fs) (filter test fs)))) ≡ true
+        → is_some (sum_of_limits (map flow_outstanding (filter test fs))) ≡ true
     by false rest = rest
     by true both =
-        some_after (flow_outstanding g) (sum_of_limits (map flow_outstanding (filter test fs))) (ap is_some (sym (sum_cons (flow_outstanding g) (map flow_outstanding (filter test fs)))) ∙ both)
+        some_after (flow_outstanding g) (sum_of_limits (map flow_outstanding (filter test fs)))
+        (ap is_some (sym (sum_cons (flow_outstanding g) (map flow_outstanding (filter test fs)))) ∙ both)
+
+-- why a node always takes what comes
+pub record AlwaysTakes (d : Declaration) (n : ℕ) : Type 0 where
+  pub limit : ℕ
+  pub limited : limit_at d n ≡ Some limit
+  pub room : (limit < slots_of (target_of d.nodes n)) ⊎ ((limit ≡ slots_of (target_of d.nodes n)) × (all_limited_at d n ≡ true))
 
 module _ (d : Declaration) where
   -- what a limit at a node says of its parts
@@ -57,24 +70,66 @@ module _ (d : Declaration) where
       let parts = and_parts (is_some f.reply) (f.to == n) answered in
       let total = (total_is (is_answering d n) (total_at d n) l limit).1 in
       let s : SplitAt (limit_from d n) (limit_from d n) f.from 0 (length d.nodes) =
-          split_at (limit_from d n) (limit_from d n) f.from (λ k other. refl) 0 (length d.nodes) (omega arith) (omega (arith, (All-at (IsFlow d.nodes) d.flows i f at flows).from)) in
+      split_at (limit_from d n) (limit_from d n) f.from (λ k other. refl) 0 (length d.nodes) (omega arith)
+      (omega (arith, (All-at (IsFlow d.nodes) d.flows i f at flows).from)) in
       let one : is_some (limit_from d n f.from) ≡ true = some_before (limit_from d n f.from) s.rest (ap is_some (sym s.before ∙ total)) in
       and_from (is_some f.reply) (is_some (flow_outstanding f) || is_some own) parts.0
       (by own (sum_of_limits (map flow_outstanding (commands_from d f.from n))) one
-      (λ some. each_limited (λ (g : FlowEntry). is_answered_at n g && g.from == f.from) d.flows i f some at (and_from (is_answered_at n f) (f.from == f.from) answered (eq-eqb f.from f.from refl))))
+      (λ some. each_limited (λ (g : FlowEntry). is_answered_at n g && g.from == f.from) d.flows i f some at
+      (and_from (is_answered_at n f) (f.from == f.from) answered (eq-eqb f.from f.from refl))))
     where
-      by : (o sum : Option ℕ) → is_some (lesser o sum) ≡ true → (is_some sum ≡ true → is_some (flow_outstanding f) ≡ true) → (is_some (flow_outstanding f) || is_some o) ≡ true
+      by : (o sum : Option ℕ) → is_some (lesser o sum) ≡ true → (is_some sum ≡ true → is_some (flow_outstanding f) ≡ true)
+          → (is_some (flow_outstanding f) || is_some o) ≡ true
       by None sum some each = ap (λ b. b || false) (each some)
       by (Some k) sum some each = or_right (is_some (flow_outstanding f)) true refl
 
+  -- the same, of a flow by its number
+  pub limited_number : All (IsFlow d.nodes) d.flows → (n l : ℕ) → limit_at d n ≡ Some l → (i : ℕ) (f : FlowEntry) → slice_get (all_flows d) i ≡ Some f
+      → is_answered_at n f ≡ true → is_limited d.nodes f ≡ true
+  limited_number flows n l limit i f at answered =
+      limited_flow flows n l limit i f (declared_at d i f at (and_parts (is_some f.reply) (f.to == n) answered).0) answered
+
+  -- only commands are limited
+  pub limited_replied : (f : FlowEntry) → is_limited d.nodes f ≡ true → is_some f.reply ≡ true
+  limited_replied f limited = (and_parts (is_some f.reply) (is_some (flow_outstanding f) || is_some (outstanding_of d.nodes f.from)) limited).0
+
   -- ---- what ends at a node with a limit
 
-  at_each : (ends replied limited : Bool) → (replied ≡ false → limited ≡ false) → (replied ≡ true → ends ≡ true → limited ≡ true) → (not ends || limited) ≡ not (ends && not replied)
+  -- where all that ends there is limited, each flow is
+  pub each_limited_at : (n : ℕ) → all_limited_at d n ≡ true → (i : ℕ) (f : FlowEntry) → slice_get (all_flows d) i ≡ Some f → f.to ≡ n
+      → is_limited d.nodes f ≡ true
+  each_limited_at n all i f at ends =
+      let test : FlowEntry → Bool = λ g. not (g.to == n) || is_limited d.nodes g in
+      let passes : test f ≡ true = All-at (λ (g : FlowEntry). test g ≡ true) (all_flows d) i f at (AllPass-from_list_all test (all_flows d) all) in
+      ap (λ b. not b || is_limited d.nodes f) (sym (eq-eqb f.to n ends)) ∙ passes
+
+  -- a node that always takes has a limit, which is less than its slots, or as much where all that ends there is limited
+  pub takes_always : (n : ℕ) → always_takes d n ≡ true → AlwaysTakes d n
+  takes_always n takes = by (limit_at d n) refl takes
+    where
+      by : (o : Option ℕ) → limit_at d n ≡ o
+          → option_map_or (λ l. nat_lt l (slots_of (target_of d.nodes n)) || l == slots_of
+          (target_of d.nodes n) && all_limited_at d n) o false ≡ true → AlwaysTakes d n
+      by None is passes = absurd (false≢true passes)
+      by (Some l) is passes = record {
+        limit = l;
+        limited = is;
+        room = elim (or_cases (nat_lt l (slots_of (target_of d.nodes n))) (l == slots_of (target_of d.nodes n) && all_limited_at d n) passes) [
+          | inl less ↦ inl (ltb-true l (slots_of (target_of d.nodes n)) less)
+          | inr equal ↦
+              let both = and_parts (l == slots_of (target_of d.nodes n)) (all_limited_at d n) equal in
+              inr (eqb-true l (slots_of (target_of d.nodes n)) both.0, both.1)
+        ];
+      }
+
+  at_each : (ends replied limited : Bool) → (replied ≡ false → limited ≡ false) → (replied ≡ true → ends ≡ true → limited ≡ true)
+      → (not ends || limited) ≡ not (ends && not replied)
   at_each false replied limited none all = refl
   at_each true false limited none all = none refl
   at_each true true limited none all = all refl refl
 
-  all_not : (p q : FlowEntry → Bool) (fs : List FlowEntry) → ((i : ℕ) (f : FlowEntry) → slice_get fs i ≡ Some f → p f ≡ not (q f)) → list_all p fs ≡ not (list_any q fs)
+  all_not : (p q : FlowEntry → Bool) (fs : List FlowEntry) → ((i : ℕ) (f : FlowEntry) → slice_get fs i ≡ Some f → p f ≡ not (q f))
+      → list_all p fs ≡ not (list_any q fs)
   all_not p q [] each = refl
   all_not p q (f ∷ fs) each = (λ i. each 0 f refl i && all_not p q fs (λ k g at. each (suc k) g at) i) ∙ de_morgan (q f) (list_any q fs)
     where
@@ -83,7 +138,8 @@ module _ (d : Declaration) where
       de_morgan false b = refl
 
   -- all that ends there is limited, where no flow without replies ends there
-  pub limited_unless_unanswered : All (IsFlow d.nodes) d.flows → (n l : ℕ) → limit_at d n ≡ Some l → all_limited_at d n ≡ not (list_any (ends_unanswered n) (all_flows d))
+  pub limited_unless_unanswered : All (IsFlow d.nodes) d.flows → (n l : ℕ) → limit_at d n ≡ Some l
+      → all_limited_at d n ≡ not (list_any (ends_unanswered n) (all_flows d))
   limited_unless_unanswered flows n l limit =
       all_not (λ f. not (f.to == n) || is_limited d.nodes f) (ends_unanswered n) (all_flows d)
       (λ i f at. at_each (f.to == n) (is_some f.reply) (is_limited d.nodes f)
@@ -103,8 +159,13 @@ module _ (d : Declaration) where
     -- no flow is limited
     pub unlimited : (i : ℕ) (f : FlowEntry) → slice_get d.flows i ≡ Some f → is_limited d.nodes f ≡ false
     unlimited i f at =
-        (λ j. is_some f.reply && (is_some (All-at (λ (x : FlowEntry). flow_outstanding x ≡ None) d.flows i f at none.flows j) || is_some (no_own_limit f.from j)))
+        (λ j. is_some f.reply &&
+        (is_some (All-at (λ (x : FlowEntry). flow_outstanding x ≡ None) d.flows i f at none.flows j) || is_some (no_own_limit f.from j)))
         ∙ and_right (is_some f.reply) false refl
+
+    pub unlimited_number : (i : ℕ) (f : FlowEntry) → slice_get (all_flows d) i ≡ Some f → is_limited d.nodes f ≡ false
+    unlimited_number i f at = false_from_ne_true (is_limited d.nodes f)
+        (λ limited. false≢true (sym (unlimited i f (declared_at d i f at (limited_replied f limited))) ∙ limited))
 
     -- no node has a limit
     pub no_limit_at : All (IsFlow d.nodes) d.flows → (n : ℕ) → limit_at d n ≡ None
@@ -119,7 +180,8 @@ module _ (d : Declaration) where
 
     pub never_takes : All (IsFlow d.nodes) d.flows → (n : ℕ) → always_takes d n ≡ false
     never_takes flows n =
-        ap (λ o. option_map_or (λ l. nat_lt l (slots_of (target_of d.nodes n)) || l == slots_of (target_of d.nodes n) && all_limited_at d n) o false) (no_limit_at flows n)
+        ap (λ o. option_map_or (λ l. nat_lt l (slots_of (target_of d.nodes n)) || l == slots_of (target_of d.nodes n) && all_limited_at d n) o false)
+        (no_limit_at flows n)
 
     pub waits_where_answering : All (IsFlow d.nodes) d.flows → (n : ℕ) → may_make_wait d n ≡ is_answering d n
     waits_where_answering flows n = ap (λ b. is_answering d n && not b) (never_takes flows n) ∙ and-true (is_answering d n)
@@ -135,7 +197,8 @@ module _ (d : Declaration) where
   pub marked_waits : (n : ℕ) → get_or (waiting_marks d) n false ≡ true → may_make_wait d n ≡ true
   marked_waits n set = elim (cases_lt n (length d.nodes)) [
     | inl lt ↦ sym (waiting_mark_is n lt) ∙ set
-    | inr past ↦ absurd (false≢true (sym (get_or_past (waiting_marks d) n false (omega (arith, past, length-map-range_with_len (may_make_wait d) 0 (length d.nodes)))) ∙ set))
+    | inr past ↦ absurd (false≢true
+        (sym (get_or_past (waiting_marks d) n false (omega (arith, past, length-map-range_with_len (may_make_wait d) 0 (length d.nodes)))) ∙ set))
   ]
 
   -- such a node answers commands
@@ -175,9 +238,10 @@ module _ (d : Declaration) where
         → (nat_lt l slots || l == slots && not others) ≡ always_takes d n
     takes_told n l slots others limit are told =
         let all : not others ≡ all_limited_at d n =
-            ap not (told ∙ a.others n (within_limit n l limit)) ∙ sym (limited_unless_unanswered valid.flows n l limit) in
+        ap not (told ∙ a.others n (within_limit n l limit)) ∙ sym (limited_unless_unanswered valid.flows n l limit) in
         (λ i. nat_lt l (are i) || l == are i && all i)
-        ∙ sym (ap (λ o. option_map_or (λ k. nat_lt k (slots_of (target_of d.nodes n)) || k == slots_of (target_of d.nodes n) && all_limited_at d n) o false) limit)
+        ∙ sym (ap (λ o. option_map_or
+        (λ k. nat_lt k (slots_of (target_of d.nodes n)) || k == slots_of (target_of d.nodes n) && all_limited_at d n) o false) limit)
 
     pub small_limit : (n l : ℕ) → limit_at d n ≡ Some l → l ≤ 4096 * 65535
     small_limit n l limit =

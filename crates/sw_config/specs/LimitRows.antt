@@ -1,10 +1,11 @@
 -- What a network keeps beside its flows for the limits on unanswered commands, and what one flow more changes in it.
-use Rattle.std.specs.Prelude.{◌≡◌, ℕ, ◌+◌, ◌-◌, ◌*◌, ◌<◌, ◌≤◌, ◌==◌, ◌&&◌, Bool, false, true, not, List, [], length, map, set, get_or, replicate, nat_eq, Option}
+use Rattle.std.specs.Prelude.{◌≡◌, ℕ, ◌+◌, ◌-◌, ◌*◌, ◌<◌, ◌≤◌, ◌==◌, ◌&&◌, Bool, false, true, not, List, [], length, map, set, get_or, replicate, nat_eq}
+use Rattle.std.specs.Prelude.{Option}
 use Rattle.std.specs.Prelude.{Some, None, is_some, IfSome, option_map, unwrap_or, if◌then◌else◌}
 use Rattle.std.specs.List.{list_any, range_with_len}
 use Rattle.std.specs.Map.{lookup}
 use Rattle.indexmap.specs.IndexMap.{insert_entry}
-use Rattle.sw_config.specs.Entries.{NodeEntry, ReplyEntry, FlowEntry, Declaration, all_flows, is_answering}
+use Rattle.sw_config.specs.Entries.{ReplyEntry, FlowEntry, Declaration, all_flows, is_answering}
 use Rattle.sw_config.specs.Limits.{lesser, sum_of_limits, flow_outstanding, commands_from, limit_from}
 
 -- By node: whether it answers commands, whether a flow without replies ends there, and how many commands may be unanswered there; and by the

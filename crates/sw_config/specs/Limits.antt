@@ -49,7 +49,8 @@ all_limited_at d n = list_all (λ f. not (f.to == n) || is_limited d.nodes f) (a
 -- Node n takes what comes, whatever it owes: fewer commands may be unanswered there than replies may be owed, or as many, where nothing
 -- else ends there (a command that waits is itself unanswered, and not yet owed).
 abbrev pub always_takes : Declaration → ℕ → Bool
-always_takes d n = option_map_or (λ l. nat_lt l (slots_of (target_of d.nodes n)) || l == slots_of (target_of d.nodes n) && all_limited_at d n) (limit_at d n) false
+always_takes d n =
+    option_map_or (λ l. nat_lt l (slots_of (target_of d.nodes n)) || l == slots_of (target_of d.nodes n) && all_limited_at d n) (limit_at d n) false
 
 -- what comes to node n may have to wait until it has sent a reply
 abbrev pub may_make_wait : Declaration → ℕ → Bool

@@ -96,7 +96,7 @@ impl NetworkBuilder {
     }
 
     /// Adds a node of a new name, which is an RMAP target if `target` says how it answers. At most `outstanding` of its commands may be
-    /// unanswered at once, or any number.
+    /// unanswered at once, 1 to 65,535, or any number.
     ///
     /// # Errors
     ///

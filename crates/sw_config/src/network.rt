@@ -187,7 +187,7 @@ impl Network {
         node.target
     }
 
-    /// How many of the node's commands may be unanswered at once, if that is limited.
+    /// How many of the node's commands may be unanswered at once, if that is limited: 1 to 65,535.
     pub fn outstanding(&self, node: u16) -> Option<u16>
         requires { node < length self.now.nodes }
         ensures outstanding { result ≡ outstanding_of self.now.nodes node }

@@ -16,7 +16,8 @@ invariant_of-self-in_default c =
     rw c.in_default.ensures.ok
     (flow_more inside.topology inside.names inside.replies inside.limits d c.args.flow c.add_reply.new.self c.add_limited.new.limits c.self.invariant c.in_ok-add_reply.ensures.ok
     (rw c.in_default.ensures.limits
-    (limits_more d c.args.flow inside.limits c.outstanding-own.result c.self.invariant.limited c.self.invariant.valid.nodes (rw (← c.self.view_is) at c.requires.flow)
+    (limits_more d c.args.flow inside.limits c.outstanding-own.result c.self.invariant.limited c.self.invariant.valid.nodes
+    (rw (← c.self.view_is) at c.requires.flow)
     ((rw (← c.self.view_is) at c.outstanding-own.ensures.outstanding) ∙ ap (outstanding_of d.nodes) c.from.ensures)))
     (rw (← c.self.view_is) at c.requires.few) (rw (← c.self.view_is) at c.requires.new_name) (rw (← c.self.view_is) at c.requires.flow))
 
@@ -27,7 +28,8 @@ pub invariant_of-self-in-Err : goal.invariant_of-self-in-Err
 invariant_of-self-in-Err c =
     let inside = c.self.inside in
     let d : Declaration = record { nodes = inside.nodes.items; switches = inside.switches.items; links = inside.links.items; flows = inside.flows } in
-    flow_refused inside.topology inside.names inside.replies (replies_of c.args.flow c.args.flow.reply) c.add_reply.new.self c.truncate.new.self c.add_limited.new.self inside.limits c.add_limited.new.limits c.len-replies_before.result d
+    flow_refused inside.topology inside.names inside.replies
+    (replies_of c.args.flow c.args.flow.reply) c.add_reply.new.self c.truncate.new.self c.add_limited.new.self inside.limits c.add_limited.new.limits c.len-replies_before.result d
     c.self.invariant c.in_ok-add_reply.ensures.ok c.len-replies_before.ensures c.truncate.ensures c.in-Err.ensures.err c.in-Err.ensures.limits_kept
 
 pub returns-in-Err-clause-err : goal.returns-in-Err-clause-err

@@ -1,4 +1,4 @@
-use Rattle.std.proofs.Common.{List, sym, ◌∙◌}
+use Rattle.std.proofs.Common.{sym, ◌∙◌}
 use Rattle.sw_config.specs.Entries.{Declaration}
 use Rattle.sw_config.proofs.Limits.{takes_told}
 use Rattle.sw_config.proofs.network.Network.always_takes.Goals as goal

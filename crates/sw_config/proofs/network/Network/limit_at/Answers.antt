@@ -1,6 +1,5 @@
-use Rattle.std.proofs.Common.{List, ◌∙◌}
+use Rattle.std.proofs.Common.{◌∙◌}
 use Rattle.sw_config.specs.Entries.{Declaration}
-use Rattle.sw_config.specs.Limits.{limit_at}
 use Rattle.sw_config.proofs.Limits.{limit_told, within_told}
 use Rattle.sw_config.proofs.network.Network.limit_at.Goals as goal
 

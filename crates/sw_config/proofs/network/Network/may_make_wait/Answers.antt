@@ -1,4 +1,4 @@
-use Rattle.std.proofs.Common.{List, ap, not, ◌&&◌, ◌∙◌, sym}
+use Rattle.std.proofs.Common.{ap, not, ◌&&◌, ◌∙◌, sym}
 use Rattle.sw_config.specs.Entries.{Declaration}
 use Rattle.sw_config.specs.Limits.{always_takes}
 use Rattle.sw_config.proofs.Limits.{answering_told}

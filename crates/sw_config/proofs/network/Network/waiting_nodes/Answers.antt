@@ -1,4 +1,4 @@
-use Rattle.std.proofs.Common.{List, [], ◌∷◌, ◌++◌, Bool, ap, sym, zero-add, ◌∙◌}
+use Rattle.std.proofs.Common.{[], ◌∷◌, ◌++◌, sym, zero-add, ◌∙◌}
 use Rattle.std.proofs.lemmas.List.FromFn.{map-range_with_len_more}
 use Rattle.sw_config.specs.Limits.{may_make_wait}
 use Rattle.sw_config.proofs.network.Network.waiting_nodes.Goals as goal
