@@ -2,6 +2,7 @@
 use Rattle.std.proofs.Common.{◌≡◌, ◌∙◌, ◌+◌, ◌++◌, ◌<◌, ◌≤◌, ◌-◌, ℕ, Bor, List, Bool, true, false, codes, cond, get_or, length, map, take, [], ◌∷◌, ap, append_assoc, arith, drop, sym, ◌||◌}
 use Rattle.sw_text.specs.declared.keys.Key.{Key}
 use Rattle.sw_text.specs.declared.keys.Section.{Section}
+use Rattle.sw_text.specs.declared.keys.Version.{Version}
 use Rattle.sw_text.specs.Keys.{key_text}
 use Rattle.sw_text.specs.Table.{is_known}
 use Rattle.std.specs.List.{flat_map, list_any}
@@ -10,7 +11,7 @@ use Rattle.std.proofs.lemmas.List.{take_all, take_rest}
 use Rattle.std.proofs.lemmas.List.Folds.{list_any_at, list_any_more}
 use Rattle.sw_hints.specs.FaultWords.{one_of}
 use Rattle.sw_hints.specs.Helps.{key_help, meant_help, node_help}
-use Rattle.sw_hints.specs.KeyWords.{keys_of, new_keys_of, outer_keys, port_keys}
+use Rattle.sw_hints.specs.KeyWords.{keys_of, new_keys_of, newest_keys_of, outer_keys, port_keys}
 use Rattle.sw_hints.specs.Nearest.{like}
 use Rattle.sw_config.proofs.Texts.{list_any-map}
 
@@ -50,16 +51,17 @@ like_told name read nodes switches is none =
 pub not_known : (name : List ℕ) (keys read : List Key) (b : Bool) → b ≡ is_known read name → read ≡ keys → b ≡ false → is_known keys name ≡ false
 not_known name keys read b is same none = sym (is ∙ ap (λ l. is_known l name) same) ∙ none
 
-last_of : (a b c : Bool) (x y z w : List ℕ) → a ≡ false → b ≡ false → c ≡ false → w ≡ cond a x (cond b y (cond c z w))
-last_of a b c x y z w first second third =
-    sym (ap (λ t. cond t x (cond b y (cond c z w))) first ∙ ap (λ t. cond t y (cond c z w)) second ∙ ap (λ t. cond t z w) third)
+last_of : (a b c d : Bool) (x y z v w : List ℕ) → a ≡ false → b ≡ false → c ≡ false → d ≡ false → w ≡ cond a x (cond b y (cond c z (cond d v w)))
+last_of a b c d x y z v w first second third fourth =
+    sym (ap (λ t. cond t x (cond b y (cond c z (cond d v w)))) first ∙ ap (λ t. cond t y (cond c z (cond d v w))) second ∙ ap (λ t. cond t z (cond d v w)) third ∙ ap (λ t. cond t v w) fourth)
 
 -- a key that is known nowhere else
-pub unknown_told : (section : Section) (name : List ℕ) (read : List (List ℕ)) → is_known (new_keys_of section) name ≡ false
-    → is_known (port_keys section) name ≡ false → is_known (outer_keys section) name ≡ false → read ≡ map key_text (keys_of section)
-    → meant_help (like name read) ≡ key_help section name
-unknown_told section name read new port outer is =
-    ap (λ l. meant_help (like name l)) is ∙ last_of (is_known (new_keys_of section) name) (is_known (port_keys section) name) (is_known (outer_keys section) name) _ _ _ _ new port outer
+pub unknown_told : (version : Version) (section : Section) (name : List ℕ) (read : List (List ℕ)) → is_known (new_keys_of section) name ≡ false
+    → is_known (newest_keys_of section) name ≡ false → is_known (port_keys section) name ≡ false → is_known (outer_keys section) name ≡ false
+    → read ≡ map key_text (keys_of version section) → meant_help (like name read) ≡ key_help version section name
+unknown_told version section name read new newest port outer is =
+    ap (λ l. meant_help (like name l)) is
+    ∙ last_of (is_known (new_keys_of section) name) (is_known (newest_keys_of section) name) (is_known (port_keys section) name) (is_known (outer_keys section) name) _ _ _ _ _ new newest port outer
 
 -- the first key, and the others with a comma before each
 pub all_listed : (keys : List Key) (i : ℕ) (d : Key) (start made : List ℕ) → 1 ≤ length keys → start ≡ codes "one of " ++ key_text (get_or keys 0 d)

@@ -4,6 +4,7 @@ use Rattle.sw_topo.specs.declared.fault.Limit.TheVariants.{Nodes, Switches, Link
 use Rattle.sw_topo.specs.declared.fault.TopoFault.{TopoFault}
 use Rattle.sw_topo.specs.declared.fault.TopoFault.TheVariants.{TooMany, PortTaken, NodeLinks, PortUnlinked}
 use Rattle.sw_text.specs.declared.keys.Key.{Key as TableKey}
+use Rattle.sw_text.specs.declared.keys.Version.{Version}
 use Rattle.sw_text.specs.declared.fault.KeyFault.{KeyFault}
 use Rattle.sw_text.specs.declared.fault.KeyFault.TheVariants.{MissingKey, WrongType, OutOfRange, DuplicateName, UnknownName}
 use Rattle.sw_text.specs.declared.fault.TextFault.{TextFault}
@@ -55,13 +56,13 @@ topology_expected (PortTaken link) = codes "at most one link at each port of a s
 topology_expected (NodeLinks node) = codes "exactly one link for each node"
 topology_expected (PortUnlinked switch) = codes "a link at one port of each switch at least"
 
--- what would be right
-abbrev pub expected_text : TextFault → List ℕ
-expected_text Syntax = codes "a TOML 1.1 text"
-expected_text (UnknownKey section name) = one_of (keys_of section)
-expected_text (Key MissingKey section key) = key_text key ++ (codes " = " ++ value_words section key)
-expected_text (Key _ section key) = value_words section key
-expected_text (Topology fault) = topology_expected fault
-expected_text (DuplicateRoute switch route) = codes "one entry at most for each address of a switch"
-expected_text (ReplyShape flow) = codes "a path of at most 12 numbers, the first not 0; an initiator from 32 to 254; 'to' a node with a target"
-expected_text (NotInFlow packet) = codes "no command that the target would answer, or one whose reply goes where the flow's 'reply' says"
+-- what would be right, by the words of this version
+abbrev pub expected_text : Version → TextFault → List ℕ
+expected_text version Syntax = codes "a TOML 1.1 text"
+expected_text version (UnknownKey section name) = one_of (keys_of version section)
+expected_text version (Key MissingKey section key) = key_text key ++ (codes " = " ++ value_words version section key)
+expected_text version (Key _ section key) = value_words version section key
+expected_text version (Topology fault) = topology_expected fault
+expected_text version (DuplicateRoute switch route) = codes "one entry at most for each address of a switch"
+expected_text version (ReplyShape flow) = codes "a path of at most 12 numbers, the first not 0; an initiator from 32 to 254; 'to' a node with a target"
+expected_text version (NotInFlow packet) = codes "no command that the target would answer, or one whose reply goes where the flow's 'reply' says"

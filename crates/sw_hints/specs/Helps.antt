@@ -8,6 +8,7 @@ use Rattle.sw_topo.specs.declared.fault.TopoFault.TheVariants.{TooMany, PortTake
 use Rattle.sw_text.specs.declared.keys.Key.{Key as TableKey}
 use Rattle.sw_text.specs.declared.keys.Key.TheVariants as key
 use Rattle.sw_text.specs.declared.keys.Section.{Section}
+use Rattle.sw_text.specs.declared.keys.Version.{Version}
 use Rattle.sw_text.specs.declared.fault.KeyFault.{KeyFault}
 use Rattle.sw_text.specs.declared.fault.KeyFault.TheVariants.{MissingKey, WrongType, OutOfRange, DuplicateName, UnknownName}
 use Rattle.sw_text.specs.declared.fault.TextFault.{TextFault}
@@ -16,7 +17,7 @@ use Rattle.sw_text.specs.Keys.{key_text}
 use Rattle.sw_text.specs.Table.{is_known}
 use Rattle.sw_notes.specs.Entries.{text_of}
 use Rattle.sw_hints.specs.Entries.{names_of, part_names}
-use Rattle.sw_hints.specs.KeyWords.{keys_of, new_keys_of, outer_keys, port_keys}
+use Rattle.sw_hints.specs.KeyWords.{words_version, keys_of, new_keys_of, newest_keys_of, outer_keys, port_keys}
 use Rattle.sw_hints.specs.Nearest.{like}
 
 -- the word that was meant, maybe
@@ -24,14 +25,15 @@ abbrev pub meant_help : Option (List ℕ) → List ℕ
 meant_help None = []
 meant_help (Some text) = codes "is '" ++ (text ++ codes "' meant?")
 
--- a key that a table may not have: one of version 2, a port beside a node, a key of the document below a header, or one that is like a known key
-abbrev pub key_help : Section → List ℕ → List ℕ
-key_help section name =
+-- a key that a table may not have: one of version 2, one of version 3, a port beside a node, a key of the document below a header, or one that is like a known key
+abbrev pub key_help : Version → Section → List ℕ → List ℕ
+key_help version section name =
     if is_known (new_keys_of section) name then codes "this key is of version 2 only: write version = 2"
+    else if is_known (newest_keys_of section) name then codes "this key is of version 3 only: write version = 3"
     else if is_known (port_keys section) name then codes "a node has no ports: this key stands beside the name of a switch"
     else if is_known (outer_keys section) name
     then codes "a key that stands below a header, as [[switch]], belongs to that table: write it above the first header"
-    else meant_help (like name (map key_text (keys_of section)))
+    else meant_help (like name (map key_text (keys_of version section)))
 
 -- a name of no node: it may be a switch's, or like a node's
 abbrev pub node_help : List ℕ → List (List ℕ) → List (List ℕ) → List ℕ
@@ -76,7 +78,7 @@ topology_help (PortUnlinked switch) = codes "link the switch, or leave it out"
 -- what to do about a fault of the text of this document
 abbrev pub help_text : Members → TextFault → List ℕ
 help_text document Syntax = []
-help_text document (UnknownKey section name) = key_help section name
+help_text document (UnknownKey section name) = key_help (words_version document) section name
 help_text document (Key fault section k) = key_fault_help document fault section k
 help_text document (Topology fault) = topology_help fault
 help_text document (DuplicateRoute switch route) = codes "several ports for one address stand in one entry's 'ports'"

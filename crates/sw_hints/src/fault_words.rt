@@ -5,7 +5,7 @@ ghost use Rattle.sw_hints.specs.FaultWords.{expected_text, fault_words, one_of, 
 use crate::key_words::{keys_of, value_words};
 use std::alloc::{AllocError, Global};
 use std::fmt::Write;
-use sw_text::{Key, KeyFault, TextFault, fault_text};
+use sw_text::{Key, KeyFault, TextFault, Version, fault_text};
 use sw_topo::{Limit, TopoFault};
 
 fn fault_words(fault: &TextFault) -> &'static str
@@ -82,21 +82,28 @@ fn missing_text(alloc: Global, name: &str, words: &str) -> Result<String, AllocE
     format!(in alloc; "{name} = {words}")
 }
 
-/// What would be right.
+/// What would be right, by the words of this version.
 ///
 /// # Errors
 ///
 /// There is no memory for the text.
-pub fn expected_text(alloc: Global, fault: &TextFault) -> Result<String, AllocError>
-    ensures { IfOk result (λ s. string_bytes s ≡ expected_text fault.now) }
+pub fn expected_text(
+    alloc: Global,
+    version: Version,
+    fault: &TextFault,
+) -> Result<String, AllocError>
+    ensures { IfOk result (λ s. string_bytes s ≡ expected_text version fault.now) }
 {
     match fault {
         TextFault::Syntax => String::from_str(alloc, "a TOML 1.1 text"),
-        TextFault::UnknownKey(section, _) => one_of(alloc, keys_of(*section)),
+        TextFault::UnknownKey(section, _) => one_of(alloc, keys_of(version, *section)),
         TextFault::Key(KeyFault::MissingKey, section, key) => {
-            missing_text(alloc, key.text(), value_words(*section, *key))
+            missing_text(alloc, key.text(), value_words(version, *section, *key))
         }
-        TextFault::Key(_, section, key) => String::from_str(alloc, value_words(*section, *key)),
+        TextFault::Key(_, section, key) => String::from_str(
+            alloc,
+            value_words(version, *section, *key),
+        ),
         TextFault::Topology(fault) => String::from_str(alloc, topology_expected(*fault)),
         TextFault::DuplicateRoute(_, _) => {
             String::from_str(alloc, "one entry at most for each address of a switch")

@@ -7,11 +7,13 @@ ghost use Rattle.sw_hints.specs.Helps.{help_text, key_help, meant_help, name_hel
 ghost use Rattle.sw_hints.specs.Nearest.{like};
 
 use crate::entries::{add_names, names_of};
-use crate::key_words::{keys_of, new_keys_of, outer_keys, port_keys};
+use crate::key_words::{
+    keys_of, new_keys_of, newest_keys_of, outer_keys, port_keys, words_version,
+};
 use crate::nearest::like;
 use std::alloc::{AllocError, Global};
 use sw_notes::text_of;
-use sw_text::{Key, KeyFault, Section, TextFault};
+use sw_text::{Key, KeyFault, Section, TextFault, Version};
 use sw_topo::TopoFault;
 use toml::Table;
 
@@ -49,11 +51,19 @@ fn like_help(alloc: Global, name: &str, texts: &[&str]) -> Result<String, AllocE
 }
 
 // What to do about a key that a table may not have.
-fn key_help(alloc: Global, section: Section, name: &str) -> Result<String, AllocError>
-    ensures { IfOk result (λ s. string_bytes s ≡ key_help section name.now) }
+fn key_help(
+    alloc: Global,
+    version: Version,
+    section: Section,
+    name: &str,
+) -> Result<String, AllocError>
+    ensures { IfOk result (λ s. string_bytes s ≡ key_help version section name.now) }
 {
     if is_one_of(new_keys_of(section), name) {
         return String::from_str(alloc, "this key is of version 2 only: write version = 2");
+    }
+    if is_one_of(newest_keys_of(section), name) {
+        return String::from_str(alloc, "this key is of version 3 only: write version = 3");
     }
     if is_one_of(port_keys(section), name) {
         return String::from_str(
@@ -67,7 +77,7 @@ fn key_help(alloc: Global, section: Section, name: &str) -> Result<String, Alloc
             "a key that stands below a header, as [[switch]], belongs to that table: write it above the first header",
         );
     }
-    let keys = keys_of(section);
+    let keys = keys_of(version, section);
     let mut texts = Vec::new(alloc);
     for key in keys {
         texts.push(key.text())?;
@@ -152,7 +162,10 @@ pub fn help_text(alloc: Global, document: &Table, fault: &TextFault) -> Result<S
 {
     match fault {
         TextFault::Syntax => Ok(String::new(alloc)),
-        TextFault::UnknownKey(section, name) => key_help(alloc, *section, name.as_str()),
+        TextFault::UnknownKey(section, name) => {
+            let version = words_version(alloc, document)?;
+            key_help(alloc, version, *section, name.as_str())
+        }
         TextFault::Key(KeyFault::UnknownName, section, key) => {
             name_help(alloc, document, *section, *key)
         }

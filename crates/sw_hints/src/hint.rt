@@ -3,17 +3,31 @@ ghost use Rattle.std.specs.Prelude.{◌≡◌, ◌≤◌, IfOk, IfSome, length, 
 ghost use Rattle.sw_text.specs.Document.{document_of};
 ghost use Rattle.sw_hints.specs.FaultWords.{expected_text, what_text};
 ghost use Rattle.sw_hints.specs.HintLines.{hint_lines};
-ghost use Rattle.sw_hints.specs.Hints.{AreNotes, IsHelp, IsHint, IsNetworkHint, help_by};
+ghost use Rattle.sw_hints.specs.Hints.{AreNotes, IsHelp, IsHint, IsNetworkHint, help_by, version_by};
 
 use crate::fault_words::{expected_text, what_text};
 use crate::helps::help_text;
+use crate::key_words::words_version;
 use crate::lines::hint_lines;
 use crate::note_lines::note_lines;
 use crate::places::fault_place;
 use std::alloc::{AllocError, Global};
 use sw_file::read_network;
 use sw_notes::{notes_of, text_fault};
-use sw_text::{FileFault, TextFault, read_document};
+use sw_text::{FileFault, TextFault, Version, read_document};
+
+// By the words of which version a fault of a text is told.
+fn version_of_words(alloc: Global, text: &[u8]) -> Result<Version, AllocError>
+    ensures { IfOk result (λ v. v ≡ version_by (document_of text.now)) }
+{
+    match read_document(alloc, text) {
+        Ok(document) => words_version(alloc, &document),
+        Err(refused) => {
+            text_fault(refused)?;
+            Ok(Version::Two)
+        }
+    }
+}
 
 // What to do about a fault of a text.
 fn help_of(alloc: Global, text: &[u8], fault: &TextFault) -> Result<String, AllocError>
@@ -54,10 +68,11 @@ fn hint_at(
     notes: &str,
 ) -> Result<String, AllocError>
     requires { IfSome place (λ at. at ≤ length text.now) }
-    ensures { IfOk result (λ s. string_bytes s ≡ hint_lines path.now text.now place (what_text fault.now) (expected_text fault.now) (help_by (document_of text.now) fault.now) notes.now) }
+    ensures { IfOk result (λ s. string_bytes s ≡ hint_lines path.now text.now place (what_text fault.now) (expected_text (version_by (document_of text.now)) fault.now) (help_by (document_of text.now) fault.now) notes.now) }
 {
     let what = what_text(alloc, fault)?;
-    let expected = expected_text(alloc, fault)?;
+    let version = version_of_words(alloc, text)?;
+    let expected = expected_text(alloc, version, fault)?;
     let help = help_of(alloc, text, fault)?;
     hint_lines(
         alloc,

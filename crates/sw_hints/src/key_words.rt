@@ -1,31 +1,55 @@
 //! What may stand at the keys of a network file or a load file.
-ghost use Rattle.std.specs.Prelude.{◌≡◌};
-ghost use Rattle.sw_hints.specs.KeyWords.{keys_of, new_keys_of, outer_keys, port_keys, value_words};
+ghost use Rattle.std.specs.Prelude.{◌≡◌, IfOk};
+ghost use Rattle.toml.specs.View.{table_view};
+ghost use Rattle.sw_hints.specs.KeyWords.{keys_of, new_keys_of, newest_keys_of, outer_keys, port_keys, slots_words, value_words, words_version};
 
+use std::alloc::{AllocError, Global};
+use sw_file::declared_version;
 use sw_file::keys::{
-    DOCUMENT_KEYS, FLOW_KEYS, NODE_KEYS, REPLY_KEYS, SWITCH_KEYS, link_keys, route_keys,
+    DOCUMENT_KEYS, FLOW_KEYS, SWITCH_KEYS, link_keys, node_keys, reply_keys, route_keys,
     target_keys,
 };
+use sw_notes::text_fault;
 use sw_text::{Key, Section, Version};
+use toml::Table;
 
-/// The keys of a table, those of version 2 too.
-pub(crate) fn keys_of(section: Section) -> &'static [Key]
-    ensures { result.now ≡ keys_of section }
+/// By the words of which version a fault of the document is told: of version 3 where it is of that version, else of version 2.
+///
+/// # Errors
+///
+/// There is no memory to look.
+pub(crate) fn words_version(alloc: Global, document: &Table) -> Result<Version, AllocError>
+    ensures { IfOk result (λ v. v ≡ words_version (table_view document.now)) }
+{
+    match declared_version(alloc, document) {
+        Ok(Version::One) => Ok(Version::Two),
+        Ok(Version::Two) => Ok(Version::Two),
+        Ok(Version::Three) => Ok(Version::Three),
+        Err(refused) => {
+            text_fault(refused)?;
+            Ok(Version::Two)
+        }
+    }
+}
+
+/// The keys of a table, those of this version too.
+pub(crate) fn keys_of(version: Version, section: Section) -> &'static [Key]
+    ensures { result.now ≡ keys_of version section }
 {
     match section {
         Section::Document => DOCUMENT_KEYS,
-        Section::Node(_) => NODE_KEYS,
-        Section::Target(_) => target_keys(Version::Two),
+        Section::Node(_) => node_keys(version),
+        Section::Target(_) => target_keys(version),
         Section::Switch(_) => SWITCH_KEYS,
-        Section::Route(_, _) => route_keys(Version::Two),
-        Section::Link(_) => link_keys(Version::Two),
+        Section::Route(_, _) => route_keys(version),
+        Section::Link(_) => link_keys(version),
         Section::Flow(_) => FLOW_KEYS,
-        Section::Reply(_) => REPLY_KEYS,
+        Section::Reply(_) => reply_keys(version),
         Section::Packet(_) => &[Key::Flow, Key::Cargo, Key::End, Key::Count],
     }
 }
 
-/// Those of version 2 alone.
+/// Those of version 2, and not of version 1.
 pub(crate) fn new_keys_of(section: Section) -> &'static [Key]
     ensures { result.now ≡ new_keys_of section }
 {
@@ -33,6 +57,17 @@ pub(crate) fn new_keys_of(section: Section) -> &'static [Key]
         Section::Target(_) => &[Key::Slots],
         Section::Route(_, _) => &[Key::Last],
         Section::Link(_) => &[Key::BufferA, Key::BufferB],
+        _ => &[],
+    }
+}
+
+/// Those of version 3, and not of version 2.
+pub(crate) fn newest_keys_of(section: Section) -> &'static [Key]
+    ensures { result.now ≡ newest_keys_of section }
+{
+    match section {
+        Section::Node(_) => &[Key::Outstanding],
+        Section::Reply(_) => &[Key::Outstanding],
         _ => &[],
     }
 }
@@ -58,12 +93,22 @@ pub(crate) fn outer_keys(section: Section) -> &'static [Key]
     }
 }
 
-/// What may stand at a key of a table.
-pub(crate) fn value_words(section: Section, key: Key) -> &'static str
-    ensures { result.now ≡ value_words section key }
+/// How many replies a target may owe.
+fn slots_words(version: Version) -> &'static str
+    ensures { result.now ≡ slots_words version }
+{
+    match version {
+        Version::One | Version::Two => "a number from 1 to 8",
+        Version::Three => "a number from 1 to 64",
+    }
+}
+
+/// What may stand at a key of a table, by the words of this version.
+pub(crate) fn value_words(version: Version, section: Section, key: Key) -> &'static str
+    ensures { result.now ≡ value_words version section key }
 {
     match key {
-        Key::Version => "1 or 2",
+        Key::Version => "1, 2 or 3",
         Key::Node | Key::Link => "a list of at most 1024 tables",
         Key::Switch => "a list of at most 512 tables",
         Key::Flow => match section {
@@ -76,7 +121,7 @@ pub(crate) fn value_words(section: Section, key: Key) -> &'static str
         Key::TargetKey => "a number from 0 to 255",
         Key::Start => "a number from 0 to 1099511627775",
         Key::Size => "a number from 1 to 65536, and 'start' + 'size' at most 1099511627776",
-        Key::Slots => "a number from 1 to 8",
+        Key::Slots => slots_words(version),
         Key::Arbiter => "\"fixed\", \"round-robin\" or \"least-recent\"",
         Key::Route => "a list of tables",
         Key::Address => match section {
@@ -92,6 +137,7 @@ pub(crate) fn value_words(section: Section, key: Key) -> &'static str
         Key::From | Key::To => "the name of a node",
         Key::Left => "a number from 0 to how many numbers 'address' has",
         Key::Path => "a list of at most 12 numbers from 0 to 255, the first not 0",
+        Key::Outstanding => "a number from 1 to 65535",
         Key::Packet => "a list of at most 4096 tables",
         Key::Cargo => {
             "1 to 4096 bytes: pairs of hexadecimal digits, or one pair, '*' and a number from 1 to 4096"

@@ -12,6 +12,7 @@ use Rattle.sw_text.specs.declared.fault.KeyFault.TheVariants.{UnknownName}
 use Rattle.sw_text.specs.declared.fault.TextFault.{TextFault}
 use Rattle.sw_text.specs.declared.fault.TextFault.TheVariants.{Key, NotInFlow, UnknownKey}
 use Rattle.sw_text.specs.Document.{document_of}
+use Rattle.sw_text.specs.declared.keys.Version.TheVariants.{Two}
 use Rattle.sw_text.specs.Table.{is_known}
 use Rattle.sw_file.specs.Network.{network_text}
 use Rattle.sw_load.specs.Load.{LoadEntry, load_text}
@@ -26,7 +27,7 @@ use Rattle.sw_hints.specs.Nearest.{like}
 -- what would be right
 abbrev pub expected : TextFault → List ℕ
 expected (UnknownKey section.Document name) = codes "packet, a list of tables"
-expected fault = expected_text fault
+expected fault = expected_text Two fault
 
 -- the one of the texts that was meant, maybe
 unfoldable pub meant : List ℕ → List (List ℕ) → List ℕ

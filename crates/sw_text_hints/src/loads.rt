@@ -15,7 +15,7 @@ use sw_hints::{
 };
 use sw_load::read_load;
 use sw_notes::{text_fault, text_of};
-use sw_text::{FileFault, Key, KeyFault, Section, TextFault, read_document};
+use sw_text::{FileFault, Key, KeyFault, Section, TextFault, Version, read_document};
 use toml::Table;
 
 // What would be right.
@@ -26,7 +26,7 @@ fn expected(alloc: Global, fault: &TextFault) -> Result<String, AllocError>
         TextFault::UnknownKey(Section::Document, _) => {
             String::from_str(alloc, "packet, a list of tables")
         }
-        fault => expected_text(alloc, fault),
+        fault => expected_text(alloc, Version::Two, fault),
     }
 }
 
