@@ -1,5 +1,5 @@
 -- A node that answers commands: a flow with replies ends there, and its mark is set.
-use Rattle.std.proofs.Common.{◌≡◌, ℕ, ◌+◌, ◌-◌, ◌<◌, ◌==◌, Bool, true, false, length, get_or, Some, is_some, refl, sym, subst, ap, ◌∙◌, inl, inr, arith, zero-add}
+use Rattle.std.proofs.Common.{◌≡◌, ℕ, ◌+◌, ◌-◌, ◌<◌, ◌==◌, true, false, length, get_or, Some, is_some, refl, sym, subst, ap, ◌∙◌, inl, inr, arith, zero-add}
 use Rattle.std.specs.Prelude.{slice_get}
 use Rattle.std.proofs.lemmas.Bool.{and_from, and_parts, cases_lt, eq-eqb, eqb-true, false≢true}
 use Rattle.std.proofs.lemmas.List.{get_or_past}
@@ -32,7 +32,7 @@ module _ (d : Declaration) where
       record { number = one.0; flow = f; numbered = at_front d.flows (reply_flows d.flows) one.0 f here; replied = both.0; ends_there = eqb-true f.to t both.1 }
 
   -- a flow with replies is a declared one, since reply flows have none
-  declared_at : (i : ℕ) (f : FlowEntry) → slice_get (all_flows d) i ≡ Some f → is_some f.reply ≡ true → slice_get d.flows i ≡ Some f
+  pub declared_at : (i : ℕ) (f : FlowEntry) → slice_get (all_flows d) i ≡ Some f → is_some f.reply ≡ true → slice_get d.flows i ≡ Some f
   declared_at i f at replied = elim (cases_lt i (length d.flows)) [
     | inl lt ↦ in_front d.flows (reply_flows d.flows) i f lt at
     | inr past ↦

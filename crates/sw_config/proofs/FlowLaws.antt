@@ -34,7 +34,7 @@ first_or_later f fs None k g has rec at = later f fs g (rec k at)
 first_or_later f fs (Some r) zero g has rec at = record { number = 0; flow = f; entry = r; declared = refl; replies = has; same = sym (same_Some (reply_flow f r) g at) }
 first_or_later f fs (Some r) (suc k) g has rec at = later f fs g (rec k at)
 
-replies_to : (fs : List FlowEntry) (k : ℕ) (g : FlowEntry) → slice_get (reply_flows fs) k ≡ Some g → IsReplyTo fs g
+pub replies_to : (fs : List FlowEntry) (k : ℕ) (g : FlowEntry) → slice_get (reply_flows fs) k ≡ Some g → IsReplyTo fs g
 replies_to [] k g at = absurd cc
 replies_to (f ∷ fs) k g at = first_or_later f fs f.reply k g refl (λ j. replies_to fs j g) at
 

@@ -12,6 +12,7 @@ use Rattle.sw_route.specs.Wiring.{Wiring}
 use Rattle.sw_route.specs.Checked.{first_of}
 use Rattle.sw_config.specs.Entries.{NodeEntry, LinkEntry, ReplyEntry, FlowEntry, Declaration, flow_names, reply_flow, replies_of, reply_flows, all_flows, capacities}
 use Rattle.sw_config.specs.Valid.{IsReply, IsFlow}
+use Rattle.sw_config.specs.LimitRows.{LimitRows, AreLimits}
 use Rattle.sw_config.specs.Building.{IsNetwork}
 use Rattle.sw_config.proofs.Positions.{position-append}
 use Rattle.sw_config.proofs.Steps.{named_more}
@@ -98,13 +99,14 @@ pub new_reply : (fs : List FlowEntry) (f x : FlowEntry) → x ∷ [] ≡ replies
 new_reply fs f x same new = rw (reply_name f x f.reply same) (new_reply_name f.name fs new)
 
 -- a network with one flow more
-pub flow_more : (w : Wiring) (names : List (List ℕ)) (replies : List FlowEntry) (d : Declaration) (f : FlowEntry) (after : List FlowEntry) → IsNetwork w names replies d
-    → after ≡ replies ++ replies_of f f.reply → length d.flows < 4096 → list_any (bytes_eq f.name) (flow_names d.flows) ≡ false → IsFlow d.nodes f
-    → IsNetwork w names after (record d { flows = d.flows ++ f ∷ [] })
-flow_more w names replies d f after so_far same few new ok = record {
+pub flow_more : (w : Wiring) (names : List (List ℕ)) (replies : List FlowEntry) (t : LimitRows) (d : Declaration) (f : FlowEntry) (after : List FlowEntry) (rows : LimitRows)
+    → IsNetwork w names replies t d → after ≡ replies ++ replies_of f f.reply → AreLimits (record d { flows = d.flows ++ f ∷ [] }) rows → length d.flows < 4096
+    → list_any (bytes_eq f.name) (flow_names d.flows) ≡ false → IsFlow d.nodes f → IsNetwork w names after rows (record d { flows = d.flows ++ f ∷ [] })
+flow_more w names replies t d f after rows so_far same limits few new ok = record {
   wired = so_far.wired;
   named = so_far.named;
   replied = same ∙ ap (λ x. x ++ replies_of f f.reply) so_far.replied ∙ sym (reply_flows-push d.flows f);
+  limited = limits;
   valid = record {
     sound = so_far.valid.sound;
     nodes = so_far.valid.nodes;
@@ -134,9 +136,10 @@ first_kept : {X : Type 0} (xs ys : List X) → take (length xs) (xs ++ ys) ≡ x
 first_kept [] ys = refl
 first_kept (x ∷ xs) ys = ap (λ l. x ∷ l) (first_kept xs ys)
 
-pub flow_refused : (w : Wiring) (names : List (List ℕ)) (replies more after cut flows : List FlowEntry) (n : ℕ) (d : Declaration) → IsNetwork w names replies d → after ≡ replies ++ more → n ≡ length replies
-    → cut ≡ take n after → flows ≡ d.flows → IsNetwork w names cut (record d { flows = flows })
-flow_refused w names replies more after cut flows n d so_far added size shorter kept = rw (shorter, size, added, first_kept replies more, kept) so_far
+pub flow_refused : (w : Wiring) (names : List (List ℕ)) (replies more after cut flows : List FlowEntry) (t rows : LimitRows) (n : ℕ) (d : Declaration) → IsNetwork w names replies t d
+    → after ≡ replies ++ more → n ≡ length replies → cut ≡ take n after → flows ≡ d.flows → rows ≡ t → IsNetwork w names cut rows (record d { flows = flows })
+flow_refused w names replies more after cut flows t rows n d so_far added size shorter kept counted =
+    rw (shorter, size, added, first_kept replies more, kept, counted) so_far
 
 -- places in both of two lists
 pub within_first : {X : Type 0} (xs ys : List X) (i : ℕ) → i < length xs → i < length (xs ++ ys)
@@ -157,7 +160,7 @@ capacity_odd (k ∷ links) zero c l odd at = let e : c ≡ suc 0 = omega arith i
 capacity_odd (k ∷ links) (suc i) c l odd at = let e : c ≡ suc (suc (2 * i + 1)) = omega arith in rw e (capacity_odd links i (2 * i + 1) l refl at)
 
 -- a network has at most as many reply flows as flows may be declared
-pub few_replies_in : {w : Wiring} {names : List (List ℕ)} {replies : List FlowEntry} {d : Declaration} → IsNetwork w names replies d → length replies ≤ 4096
+pub few_replies_in : {w : Wiring} {names : List (List ℕ)} {replies : List FlowEntry} {t : LimitRows} {d : Declaration} → IsNetwork w names replies t d → length replies ≤ 4096
 few_replies_in {d = d} network =
     omega (arith, network.valid.few_flows, length-reply_flows d.flows, ap (λ (xs : List FlowEntry). length xs) network.replied)
 

@@ -7,7 +7,9 @@ use Rattle.sw_route.specs.Wiring.{Wiring}
 use Rattle.sw_route.specs.Checked.{fault_of, checked, Finishes, IsSound}
 use Rattle.sw_config.specs.Entries.{FlowEntry, Declaration, wiring_of}
 use Rattle.sw_config.specs.Valid.{IsFlow}
+use Rattle.sw_config.specs.LimitRows.{LimitRows, no_limits}
 use Rattle.sw_config.specs.Building.{IsBuilder, IsNetwork, Wires}
+use Rattle.sw_config.proofs.LimitRows.{no_limits_yet}
 use Rattle.sw_config.proofs.Steps.{length-link_ends}
 
 -- a wiring that was checked without a fault, and one with its first
@@ -23,14 +25,16 @@ module _ (w : Wiring) (names : List (List ℕ)) (d : Declaration) (built : IsBui
   pub no_fault : (t : Wiring) → checked w ≡ Ok t → fault_of (wiring_of d) ≡ None
   no_fault t given = subst (λ v. fault_of v ≡ None) built.wired (joined w t (fault_of w) refl given).0
 
-  pub network_made : (t : Wiring) (flows replies : List FlowEntry) → checked w ≡ Ok t → flows ≡ [] → replies ≡ [] → IsNetwork t names replies (record d { flows = flows })
-  network_made t flows replies given none none_back =
+  pub network_made : (t : Wiring) (flows replies : List FlowEntry) (rows : LimitRows) (n : ℕ) → checked w ≡ Ok t → flows ≡ [] → replies ≡ [] → rows ≡ no_limits n → n ≡ length d.nodes
+      → IsNetwork t names replies rows (record d { flows = flows })
+  network_made t flows replies rows n given none none_back unlimited counted =
       let size : length (wiring_of d).ends ≡ 2 * length d.links = length-link_ends d.links in
       let sound : IsSound (wiring_of d) = record { wiring = record { paired = rw size (omega arith); inside = built.draft.inside }; faultless = no_fault t given } in
-      rw (none, none_back, (joined w t (fault_of w) refl given).1) (record {
+      rw (none, none_back, unlimited, (joined w t (fault_of w) refl given).1) (record {
         wired = built.wired;
         named = built.named;
         replied = refl;
+        limited = no_limits_yet (record d { flows = [] }) n counted built.draft.few_nodes refl;
         valid = record {
           sound = sound;
           nodes = built.draft.nodes;

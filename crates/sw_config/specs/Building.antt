@@ -6,6 +6,7 @@ use Rattle.sw_route.specs.LimitConstants.{MAX_NODES, MAX_SWITCHES}
 use Rattle.sw_route.specs.Wiring.{Wiring}
 use Rattle.sw_route.specs.Checked.{IsIn, fault_of}
 use Rattle.sw_config.specs.Entries.{FlowEntry, Declaration, part_names, link_ends, wiring_of, reply_flows}
+use Rattle.sw_config.specs.LimitRows.{LimitRows, AreLimits}
 use Rattle.sw_config.specs.Valid.{IsNode, IsSwitch, IsLink, IsValid}
 
 -- nodes, switches and links in their ranges, each link between two of the parts, and no name given twice
@@ -24,11 +25,12 @@ pub record IsBuilder (wiring : Wiring) (names : List (List ℕ)) (d : Declaratio
   pub named : names ≡ part_names d
   pub draft : IsDraft d
 
--- the wiring, the names and the reply flows are those of a valid declaration
-pub record IsNetwork (wiring : Wiring) (names : List (List ℕ)) (reply_list : List FlowEntry) (d : Declaration) : Type 0 where
+-- the wiring, the names, the reply flows and the limits are those of a valid declaration
+pub record IsNetwork (wiring : Wiring) (names : List (List ℕ)) (reply_list : List FlowEntry) (limits : LimitRows) (d : Declaration) : Type 0 where
   pub wired : wiring ≡ wiring_of d
   pub named : names ≡ part_names d
   pub replied : reply_list ≡ reply_flows d.flows
+  pub limited : AreLimits d limits
   pub valid : IsValid d
 
 -- What wiring gave: the declaration as it was where its wiring has no fault, and else the first fault, unless memory ran out.

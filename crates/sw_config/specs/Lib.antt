@@ -1,6 +1,7 @@
 pub mod Entries
 pub mod Valid
 pub mod Limits
+pub mod LimitRows
 pub mod Routings
 pub mod Building
 pub mod Laws

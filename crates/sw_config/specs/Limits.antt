@@ -1,5 +1,6 @@
 -- How many commands may be unanswered at a node, and which nodes always take what comes (this project's choice).
-use Rattle.std.specs.Prelude.{ℕ, ◌+◌, ◌==◌, ◌&&◌, ◌||◌, Bool, false, not, List, [], ◌∷◌, filter, map, length, min, nat_lt, Option, Some, None, is_some, option_map, slice_get, option_and_then, if◌then◌else◌}
+use Rattle.std.specs.Prelude.{◌≡◌, ℕ, ◌+◌, ◌==◌, ◌&&◌, ◌||◌, Bool, false, not, List, [], ◌∷◌, All, filter, map, length, min, nat_lt, Option, Some, None}
+use Rattle.std.specs.Prelude.{is_some, option_map, slice_get, option_and_then, if◌then◌else◌}
 use Rattle.std.specs.List.{list_all, range_with_len}
 use Rattle.std.specs.Option.{option_map_or}
 use Rattle.sw_rmap.specs.Targets.{slots_of}
@@ -48,7 +49,8 @@ all_limited_at d n = list_all (λ f. not (f.to == n) || is_limited d.nodes f) (a
 -- Node n takes what comes, whatever it owes: fewer commands may be unanswered there than replies may be owed, or as many, where nothing
 -- else ends there (a command that waits is itself unanswered, and not yet owed).
 abbrev pub always_takes : Declaration → ℕ → Bool
-always_takes d n = option_map_or (λ l. nat_lt l (slots_of (target_of d.nodes n)) || l == slots_of (target_of d.nodes n) && all_limited_at d n) (limit_at d n) false
+always_takes d n =
+    option_map_or (λ l. nat_lt l (slots_of (target_of d.nodes n)) || l == slots_of (target_of d.nodes n) && all_limited_at d n) (limit_at d n) false
 
 -- what comes to node n may have to wait until it has sent a reply
 abbrev pub may_make_wait : Declaration → ℕ → Bool
@@ -57,3 +59,8 @@ may_make_wait d n = is_answering d n && not (always_takes d n)
 -- the same of each node, in order
 abbrev pub waiting_marks : Declaration → List Bool
 waiting_marks d = map (may_make_wait d) (range_with_len 0 (length d.nodes))
+
+-- no node and no flow has a limit
+pub record HasNoLimits (d : Declaration) : Type 0 where
+  pub nodes : All (λ e. e.outstanding ≡ None) d.nodes
+  pub flows : All (λ f. flow_outstanding f ≡ None) d.flows

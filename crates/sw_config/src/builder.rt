@@ -1,19 +1,21 @@
 //! A network that is being put together.
-ghost use Rattle.std.specs.Prelude.{◌≡◌, ◌+◌, ◌<◌, ◌≤◌, ◌++◌, ◌∷◌, [], false, length, position, IfSome, OnOk, OnErr};
+ghost use Rattle.std.specs.Prelude.{◌≡◌, ◌+◌, ◌<◌, ◌≤◌, ◌++◌, ◌∷◌, [], Err, Ok, false, length, position, IfErr, IfOk, IfSome, OnOk, OnErr};
 ghost use Rattle.std.specs.List.{list_any};
 ghost use Rattle.std.specs.Str.{bytes_eq};
-ghost use Rattle.sw_route.specs.Checked.{IsIn};
+ghost use Rattle.sw_route.specs.Checked.{IsIn, Finishes, checked};
 ghost use Rattle.sw_rmap.specs.Config.{IsTargetConfig};
+ghost use Rattle.sw_config.specs.LimitRows.{no_limits};
 
 use crate::entries::{Link, Node, Switch};
 use crate::flow_table::FlowTable;
+use crate::limit_table::LimitTable;
 use crate::names::NameTable;
 use crate::network::Network;
 use std::alloc::{AllocError, Global};
 use std::marker::Model;
 use sw_arb::Arbitration;
 use sw_rmap::TargetConfig;
-use sw_route::{Builder, MAX_NODES, MAX_SWITCHES, PlaceEnd, TableRoutes, TopoError};
+use sw_route::{Builder, MAX_NODES, MAX_SWITCHES, PlaceEnd, TableRoutes, TopoError, Topology};
 
 /// The nodes, switches and links of a network so far: nodes come first, then switches.
 ///
@@ -94,7 +96,7 @@ impl NetworkBuilder {
     }
 
     /// Adds a node of a new name, which is an RMAP target if `target` says how it answers. At most `outstanding` of its commands may be
-    /// unanswered at once, or any number.
+    /// unanswered at once, 1 to 65,535, or any number.
     ///
     /// # Errors
     ///
@@ -197,8 +199,8 @@ impl NetworkBuilder {
             switches,
             links,
         } = self;
-        match wiring.finish(alloc) {
-            Ok(topology) => Ok(Network {
+        match joined(wiring, alloc, nodes.len()) {
+            Ok((topology, limits)) => Ok(Network {
                 topology,
                 names,
                 nodes,
@@ -206,6 +208,7 @@ impl NetworkBuilder {
                 links,
                 flows: FlowTable::new(alloc),
                 replies: FlowTable::new(alloc),
+                limits,
             }),
             Err(refused) => {
                 names.discard();
@@ -213,4 +216,15 @@ impl NetworkBuilder {
             }
         }
     }
+}
+
+/// How the parts are joined, and the limits of so many nodes before any flow.
+fn joined(wiring: Builder, alloc: Global, nodes: usize) -> Result<(Topology, LimitTable), TopoError>
+    ensures topology { IfOk result (λ made. checked wiring ≡ Ok made.0) }
+    ensures limits { IfOk result (λ made. made.1 ≡ no_limits nodes) }
+    ensures refused { IfErr result (λ refused. Finishes (Err refused) wiring) }
+{
+    let topology = wiring.finish(alloc)?;
+    let limits = LimitTable::new(alloc, nodes)?;
+    Ok((topology, limits))
 }

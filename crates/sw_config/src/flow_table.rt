@@ -5,6 +5,7 @@ ghost use Rattle.std.specs.Str.{bytes_eq};
 ghost use Rattle.sw_config.specs.Entries.{flow_names, replies_of};
 
 use crate::flow::Flow;
+use crate::limit_table::LimitTable;
 use crate::names::NameTable;
 use std::alloc::{AllocError, Global};
 use std::marker::Model;
@@ -28,6 +29,8 @@ impl Model for FlowTable {
 }
 
 impl FlowTable {
+    ghost use Rattle.sw_config.specs.LimitRows.{AreSmall, with_flow};
+
     pub(crate) fn new(alloc: Global) -> FlowTable
         ensures { result ≡ [] }
     {
@@ -66,6 +69,32 @@ impl FlowTable {
     {
         let name = String::from_str(alloc, flow.name());
         self.names.add(name, flow, &mut self.flows)
+    }
+
+    /// Adds a flow of a new name at the end, and what it changes in the limits, where the node that it begins at has the limit `own`.
+    pub(crate) fn add_limited(
+        &mut self,
+        alloc: Global,
+        flow: Flow,
+        own: Option<u16>,
+        limits: &mut LimitTable,
+    ) -> Result<(), AllocError>
+        requires new_name { list_any (bytes_eq flow.name) (flow_names self.old) ≡ false }
+        requires from { flow.from < length limits.old.answering }
+        requires to { flow.to < length limits.old.answering }
+        requires small { AreSmall 4095 limits.old }
+        ensures ok { OnOk result (self.new ≡ self.old ++ flow ∷ []) }
+        ensures limits { OnOk result (limits.new ≡ with_flow limits.old own flow) }
+        ensures err { OnErr result (self.new ≡ self.old) }
+        ensures limits_kept { OnErr result (limits.new ≡ limits.old) }
+    {
+        let count = self.len();
+        self.add(alloc, flow)?;
+        if let Err(refused) = limits.add(self.get(count), own) {
+            self.truncate(count);
+            return Err(refused);
+        }
+        Ok(())
     }
 
     /// Adds the flow of the replies to the flow, whose name is new, at the end, if it has replies.

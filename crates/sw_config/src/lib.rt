@@ -6,6 +6,8 @@ mod entries;
 mod flow;
 mod flow_table;
 pub mod laws;
+mod limit_table;
+mod limited;
 mod names;
 mod network;
 

@@ -7,6 +7,7 @@ ghost use Rattle.sw_rmap.specs.Config.{IsTargetConfig};
 use crate::entries::{Link, Node, Switch};
 use crate::flow::Flow;
 use crate::flow_table::FlowTable;
+use crate::limit_table::LimitTable;
 use crate::names::NameTable;
 use either::Either;
 use std::alloc::{AllocError, Global};
@@ -31,6 +32,7 @@ pub struct Network {
     pub(crate) links: Vec<Link>,
     pub(crate) flows: FlowTable,
     pub(crate) replies: FlowTable,
+    pub(crate) limits: LimitTable,
 }
 
 impl Model for Network {
@@ -41,7 +43,7 @@ impl Model for Network {
 
     ghost view = { λ n. record { nodes = n.nodes.items; switches = n.switches.items; links = n.links.items; flows = n.flows } };
 
-    ghost invariant = { λ n. IsNetwork n.topology n.names n.replies (record { nodes = n.nodes.items; switches = n.switches.items; links = n.links.items; flows = n.flows }) };
+    ghost invariant = { λ n. IsNetwork n.topology n.names n.replies n.limits (record { nodes = n.nodes.items; switches = n.switches.items; links = n.links.items; flows = n.flows }) };
 }
 
 impl Network {
@@ -62,9 +64,10 @@ impl Network {
         ensures ok { OnOk result (self.new ≡ record self.old { flows = self.old.flows ++ flow ∷ [] }) }
         ensures err { OnErr result (self.new ≡ self.old) }
     {
+        let own = self.outstanding(flow.from());
         let replies_before = self.replies.len();
         self.replies.add_reply(alloc, &flow)?;
-        if let Err(refused) = self.flows.add(alloc, flow) {
+        if let Err(refused) = self.flows.add_limited(alloc, flow, own, &mut self.limits) {
             self.replies.truncate(replies_before);
             return Err(refused);
         }
@@ -184,7 +187,7 @@ impl Network {
         node.target
     }
 
-    /// How many of the node's commands may be unanswered at once, if that is limited.
+    /// How many of the node's commands may be unanswered at once, if that is limited: 1 to 65,535.
     pub fn outstanding(&self, node: u16) -> Option<u16>
         requires { node < length self.now.nodes }
         ensures outstanding { result ≡ outstanding_of self.now.nodes node }

@@ -7,13 +7,14 @@ pub invariant_of-result : goal.invariant_of-result
 invariant_of-result c =
     let inside = c.self.inside in
     let d : Declaration = record { nodes = inside.nodes.items; switches = inside.switches.items; links = inside.links.items; flows = [] } in
-    network_made inside.wiring inside.names d c.self.invariant c.in-Ok.topology c.new.result c.new-in-Ok.result c.in-Ok.ensures.checked c.new.ensures c.new-in-Ok.ensures
+    network_made inside.wiring inside.names d c.self.invariant c.in-Ok.topology c.new.result c.new-in-Ok.result c.in-Ok.limits c.len.result c.in-Ok.ensures.topology c.new.ensures c.new-in-Ok.ensures
+    c.in-Ok.ensures.limits (c.len.ensures ∙ inside.nodes.ok.0)
 
 pub returns-in-Ok : goal.returns-in-Ok
 returns-in-Ok c =
     let inside = c.self.inside in
     let d : Declaration = record { nodes = inside.nodes.items; switches = inside.switches.items; links = inside.links.items; flows = [] } in (
-      rw (← c.self.view_is) (no_fault inside.wiring inside.names d c.self.invariant c.in-Ok.topology c.in-Ok.ensures.checked),
+      rw (← c.self.view_is) (no_fault inside.wiring inside.names d c.self.invariant c.in-Ok.topology c.in-Ok.ensures.topology),
       ap (λ (flows : List FlowEntry). record d { flows = flows }) c.new.ensures ∙ c.self.view_is,
     )
 
@@ -21,4 +22,4 @@ pub returns-in-Err : goal.returns-in-Err
 returns-in-Err c =
     let inside = c.self.inside in
     let d : Declaration = record { nodes = inside.nodes.items; switches = inside.switches.items; links = inside.links.items; flows = [] } in
-    rw (← c.self.view_is) (fault_told inside.wiring inside.names d c.self.invariant c.in-Err.refused c.in-Err.ensures.checked)
+    rw (← c.self.view_is) (fault_told inside.wiring inside.names d c.self.invariant c.in-Err.refused c.in-Err.ensures.refused)
