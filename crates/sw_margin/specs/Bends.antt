@@ -3,7 +3,8 @@ use Rattle.std.specs.Prelude.{◌≡◌, ◌↔◌, ℕ, zero, suc, Bool, false,
 use Rattle.std.specs.List.{AllZip, range_with_len}
 use Rattle.std.specs.Option.{option_map_or}
 use Rattle.sw_topo.specs.Wiring.{out, partner}
-use Rattle.sw_config.specs.Entries.{FlowEntry, Declaration, is_answering}
+use Rattle.sw_config.specs.Entries.{FlowEntry, Declaration}
+use Rattle.sw_config.specs.Limits.{may_make_wait}
 use Rattle.sw_flow.specs.declared.place.Place.{Place}
 use Rattle.sw_flow.specs.Places.{ends_of}
 use Rattle.sw_flow.specs.Followers.{followers_of}
@@ -12,9 +13,9 @@ use Rattle.sw_margin.specs.Waits.{StaysFree}
 
 -- ---- nodes
 
--- the nodes that answer no commands, in order
+-- the nodes where nothing that comes may have to wait for a reply, in order
 abbrev pub quiet_nodes : Declaration → List ℕ
-quiet_nodes d = filter (λ n. not (is_answering d n)) (range_with_len 0 (length d.nodes))
+quiet_nodes d = filter (λ n. not (may_make_wait d n)) (range_with_len 0 (length d.nodes))
 
 -- the node takes nothing while it wants to send: what comes to it waits for what goes from it
 abbrev pub stall : Declaration → ℕ → List (ℕ × ℕ)
@@ -69,7 +70,8 @@ IsStall d n b = IsBend d (stall d n) n b
 abbrev pub IsAnswer : Declaration → ℕ → Bend → Type 0
 IsAnswer d i b = IsBend d (answering_at d i) i b
 
--- of each node that answers no commands: whether the network stays free if it takes nothing while it wants to send
+-- of each node where nothing that comes may have to wait for a reply: whether the network stays free if the node takes nothing while it
+-- wants to send
 abbrev pub AreStalls : Declaration → List Bend → Type 0
 AreStalls d told = AllZip (IsStall d) (quiet_nodes d) told
 

@@ -13,8 +13,8 @@ pub struct Bend {
 /// ones.
 #[derive(Drop)]
 pub struct Margins {
-    /// Of each node at which no flow with a reply ends, in order: whether the network stays free if the node takes nothing while it
-    /// wants to send.
+    /// Of each node where nothing that comes may have to wait for a reply, in order: whether the network stays free if the node takes
+    /// nothing while it wants to send.
     pub stalls: Vec<Bend>,
     /// Of each flow without a reply, in order: whether the network stays free if the flow is answered, the replies going back over the
     /// links of its way.

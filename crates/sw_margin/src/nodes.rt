@@ -35,7 +35,8 @@ fn told_of<W: VerdictWorkers>(
     bend(workers, alloc, network, rows, node, &[stall(network, node)])
 }
 
-/// Of each node at which no flow with a reply ends: whether the network stays free if the node takes nothing while it wants to send.
+/// Of each node where nothing that comes may have to wait for a reply: whether the network stays free if the node takes nothing while it
+/// wants to send.
 ///
 /// `rows` has for each channel those for which a packet on it may wait, as `sw_cycle::dependencies` gives them. The workers share
 /// the work of each trial.
@@ -54,7 +55,7 @@ pub fn stalls<W: VerdictWorkers>(
 {
     let mut told = Vec::new(alloc);
     for node in 0..network.nodes() {
-        if network.is_answering(node) {
+        if network.may_make_wait(node) {
             continue;
         }
         told.push(told_of(workers, alloc, network, rows, node)?)?;

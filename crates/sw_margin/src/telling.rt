@@ -38,9 +38,9 @@ fn told_by_rows<W: VerdictWorkers>(
     })
 }
 
-/// How far the premises of a network bend: of each node at which no flow with a reply ends, whether the network stays free if it takes
-/// nothing while it wants to send; of each flow without a reply, whether it stays free if the flow is answered along its own way; and for
-/// each link the flows that are lost without it. The workers share the work.
+/// How far the premises of a network bend: of each node where nothing that comes may have to wait for a reply, whether the network stays
+/// free if it takes nothing while it wants to send; of each flow without a reply, whether it stays free if the flow is answered along its
+/// own way; and for each link the flows that are lost without it. The workers share the work.
 ///
 /// # Errors
 ///

@@ -114,6 +114,7 @@ module _ (nodes : List NodeEntry) (link : TargetLink) (f : FlowEntry) (lt : link
               leading = ok.leading;
               low_initiator = ok.low_initiator;
               high_initiator = ok.high_initiator;
+              outstanding = ok.outstanding;
               target = still_target nodes (made_at target_part nodes link.node) f.to is.to ok.target;
             }) is.reply;
       }
@@ -135,6 +136,7 @@ module _ (nodes : List NodeEntry) (link : TargetLink) (f : FlowEntry) (lt : link
               leading = ok.leading;
               low_initiator = ok.low_initiator;
               high_initiator = ok.high_initiator;
+              outstanding = ok.outstanding;
               target = own_target nodes link.node lt (subst (IsTarget nodes) same ok.target);
             }) is.reply;
       }

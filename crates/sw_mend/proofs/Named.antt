@@ -1,5 +1,5 @@
 -- Names of a network in which a node is split.
-use Rattle.std.proofs.Common.{◌≡◌, ◌≢◌, ℕ, ◌+◌, ◌<◌, ◌||◌, false, List, [], ◌∷◌, ◌++◌, All, AllPairs, Option, Some, option_map, length, map, ap, arith, inl, inr, refl, subst, sym, ◌∙◌, length-append}
+use Rattle.std.proofs.Common.{◌≡◌, ◌≢◌, ℕ, ◌+◌, ◌<◌, ◌||◌, false, List, [], ◌∷◌, ◌++◌, All, AllPairs, Option, None, Some, option_map, length, map, ap, arith, inl, inr, refl, subst, sym, ◌∙◌, length-append}
 use Rattle.std.specs.Prelude.{codes, option_and_then, slice_get}
 use Rattle.std.specs.List.{list_any}
 use Rattle.std.specs.Option.{option_map_or}
@@ -63,7 +63,7 @@ abbrev pub IsOwnName : List NodeEntry → ℕ → List ℕ → Type 0
 IsOwnName nodes i name = option_map (λ (e : NodeEntry). e.name ++ codes "-target") (slice_get nodes i) ≡ Some name
 
 pub own_node : (nodes : List NodeEntry) (i : ℕ) (name : List ℕ) (target : Option TargetConfig) → i < length nodes → IsOwnName nodes i name → target ≡ target_of nodes i
-    → made_at target_part nodes i ≡ record { name = name; target = target } ∷ []
+    → made_at target_part nodes i ≡ record { name = name; target = target; outstanding = None } ∷ []
 own_node nodes i name target lt named answers =
     elim (slice_get_cases nodes i).1 [
       | inl found ↦
@@ -72,7 +72,7 @@ own_node nodes i name target lt named answers =
           let is_name : e.name ++ codes "-target" ≡ name =
           same_Some (e.name ++ codes "-target") name (sym (ap (option_map (λ (e : NodeEntry). e.name ++ codes "-target")) here) ∙ named) in
           let is_target : e.target ≡ target = sym (answers ∙ ap (option_and_then (λ (e : NodeEntry). e.target)) here) in
-          ap (λ o. option_map_or (target_part i) o []) here ∙ (λ t. record { name = is_name t; target = is_target t } ∷ [])
+          ap (λ o. option_map_or (target_part i) o []) here ∙ (λ t. record { name = is_name t; target = is_target t; outstanding = None } ∷ [])
       | inr past ↦ absurd (omega (arith, past.0, lt))
     ]
 
@@ -83,7 +83,7 @@ own_names : (d : Declaration) (i : ℕ) (name : List ℕ) → i < length d.nodes
 own_names d i name lt named =
     ap (λ (l : List (List ℕ)). l ++ map (λ (s : SwitchEntry). s.name) d.switches)
     (ap (λ l. map (λ (n : NodeEntry). n.name) (d.nodes ++ l)) (own_node d.nodes i name (target_of d.nodes i) lt named refl)
-    ∙ map-append (λ (n : NodeEntry). n.name) d.nodes (record { name = name; target = target_of d.nodes i } ∷ []))
+    ∙ map-append (λ (n : NodeEntry). n.name) d.nodes (record { name = name; target = target_of d.nodes i; outstanding = None } ∷ []))
 
 pub named_with_own : (d : Declaration) (nodes : List NodeEntry) (i : ℕ) (name : List ℕ) → i < length d.nodes → IsOwnName d.nodes i name → nodes ≡ d.nodes ++ made_at target_part d.nodes i
     → AllPairs (λ x y. x ≢ y) (part_names d)

@@ -11,6 +11,7 @@ use Rattle.sw_arb.specs.declared.arbitration.Arbitration.{Arbitration}
 use Rattle.sw_rmap.specs.declared.config.TargetConfig.{TargetConfig}
 use Rattle.sw_route.specs.declared.look.Route.{Route}
 use Rattle.sw_config.specs.Entries.{NodeEntry, SwitchEntry, FlowEntry, Declaration, empty, part_names, routes_of, target_of}
+use Rattle.sw_config.specs.Limits.{outstanding_of}
 use Rattle.sw_mend.specs.Changes.{by_number, flow_after_all, route_after_all, switch_after_all}
 use Rattle.sw_mend.specs.declared.change.Change.{Change}
 use Rattle.sw_mend.proofs.AfterAll.{flow_added, flow_gone, flow_lost, reply_lost}
@@ -25,18 +26,19 @@ at_back (z ∷ xs) ys i (suc k) x is here = at_back xs ys i k x (omega arith) he
 
 -- ---- one more
 
-pub node_more : (nodes : List NodeEntry) (i : ℕ) (name : List ℕ) (target : Option TargetConfig) → i < length nodes
-    → option_map (λ (e : NodeEntry). e.name) (slice_get nodes i) ≡ Some name → target ≡ target_of nodes i
-    → take (i + 1) nodes ≡ take i nodes ++ record { name = name; target = target } ∷ []
-node_more nodes i name target lt named answers =
+pub node_more : (nodes : List NodeEntry) (i : ℕ) (name : List ℕ) (target : Option TargetConfig) (outstanding : Option ℕ) → i < length nodes
+    → option_map (λ (e : NodeEntry). e.name) (slice_get nodes i) ≡ Some name → target ≡ target_of nodes i → outstanding ≡ outstanding_of nodes i
+    → take (i + 1) nodes ≡ take i nodes ++ record { name = name; target = target; outstanding = outstanding } ∷ []
+node_more nodes i name target outstanding lt named answers limited =
     elim (slice_get_cases nodes i).1 [
       | inl found ↦
           let n : NodeEntry = found.0 in
           let here : slice_get nodes i ≡ Some n = found.2 in
           let is_name : n.name ≡ name = same_Some n.name name (sym (ap (option_map (λ (e : NodeEntry). e.name)) here) ∙ named) in
           let is_target : n.target ≡ target = sym (answers ∙ ap (option_and_then (λ (e : NodeEntry). e.target)) here) in
-          let same : get_or nodes i n ≡ record { name = name; target = target } =
-          get_or_from_slice_get nodes i n n here ∙ (λ k. record { name = is_name k; target = is_target k }) in
+          let is_outstanding : n.outstanding ≡ outstanding = sym (limited ∙ ap (option_and_then (λ (e : NodeEntry). e.outstanding)) here) in
+          let same : get_or nodes i n ≡ record { name = name; target = target; outstanding = outstanding } =
+          get_or_from_slice_get nodes i n n here ∙ (λ k. record { name = is_name k; target = is_target k; outstanding = is_outstanding k }) in
           take_more nodes i n lt ∙ ap (λ z. take i nodes ++ z ∷ []) same
       | inr past ↦ absurd (omega (arith, past.0, lt))
     ]
@@ -126,12 +128,12 @@ fresh_switch changes d now i name apart lt named is =
 
 -- ---- the declaration after one more
 
-pub node_built : (nodes : List NodeEntry) (i : ℕ) (name : List ℕ) (target : Option TargetConfig) (old new : Declaration) → i < length nodes
-    → option_map (λ (e : NodeEntry). e.name) (slice_get nodes i) ≡ Some name → target ≡ target_of nodes i → old ≡ record empty { nodes = take i nodes }
-    → new ≡ record old { nodes = old.nodes ++ record { name = name; target = target } ∷ [] } → new ≡ record empty { nodes = take (i + 1) nodes }
-node_built nodes i name target old new lt named answers before more =
-    more ∙ ap (λ (e : Declaration). record e { nodes = e.nodes ++ record { name = name; target = target } ∷ [] }) before
-    ∙ ap (λ (l : List NodeEntry). record empty { nodes = l }) (sym (node_more nodes i name target lt named answers))
+pub node_built : (nodes : List NodeEntry) (i : ℕ) (name : List ℕ) (target : Option TargetConfig) (outstanding : Option ℕ) (old new : Declaration) → i < length nodes
+    → option_map (λ (e : NodeEntry). e.name) (slice_get nodes i) ≡ Some name → target ≡ target_of nodes i → outstanding ≡ outstanding_of nodes i → old ≡ record empty { nodes = take i nodes }
+    → new ≡ record old { nodes = old.nodes ++ record { name = name; target = target; outstanding = outstanding } ∷ [] } → new ≡ record empty { nodes = take (i + 1) nodes }
+node_built nodes i name target outstanding old new lt named answers limited before more =
+    more ∙ ap (λ (e : Declaration). record e { nodes = e.nodes ++ record { name = name; target = target; outstanding = outstanding } ∷ [] }) before
+    ∙ ap (λ (l : List NodeEntry). record empty { nodes = l }) (sym (node_more nodes i name target outstanding lt named answers limited))
 
 pub switch_built : (changes : List Change) (nodes : List NodeEntry) (switches : List SwitchEntry) (i : ℕ) (name : List ℕ) (arbitration : Arbitration) (routes table : List Route)
     (old new : Declaration) → i < length switches

@@ -1,5 +1,5 @@
 -- The network in which a node is split: where it can't be one, and its parts.
-use Rattle.std.proofs.Common.{◌≡◌, ℕ, ◌<◌, ◌≤◌, Bool, true, List, [], ◌∷◌, ◌++◌, length, ap, arith, sym, ◌∙◌, ◌+◌, Option, append-nil, false, map}
+use Rattle.std.proofs.Common.{◌≡◌, ℕ, ◌<◌, ◌≤◌, Bool, true, List, [], ◌∷◌, ◌++◌, length, ap, arith, sym, ◌∙◌, ◌+◌, Option, append-nil, false, map, None}
 use Rattle.std.specs.List.{list_any}
 use Rattle.std.specs.Str.{bytes_eq}
 use Rattle.std.proofs.lemmas.Bool.{false≢true, or_parts}
@@ -27,10 +27,10 @@ full d link lt many valid =
 
 -- the nodes with the own one
 pub own_node_built : (d old now : Declaration) (node : ℕ) (name : List ℕ) (target : Option TargetConfig) → node < length d.nodes → IsOwnName d.nodes node name
-    → target ≡ target_of d.nodes node → old ≡ record empty { nodes = d.nodes } → now ≡ record old { nodes = old.nodes ++ record { name = name; target = target } ∷ [] }
+    → target ≡ target_of d.nodes node → old ≡ record empty { nodes = d.nodes } → now ≡ record old { nodes = old.nodes ++ record { name = name; target = target; outstanding = None } ∷ [] }
     → now ≡ record empty { nodes = d.nodes ++ made_at target_part d.nodes node }
 own_node_built d old now node name target lt named answers before more =
-    more ∙ ap (λ (e : Declaration). record e { nodes = e.nodes ++ record { name = name; target = target } ∷ [] }) before
+    more ∙ ap (λ (e : Declaration). record e { nodes = e.nodes ++ record { name = name; target = target; outstanding = None } ∷ [] }) before
     ∙ ap (λ (l : List NodeEntry). record empty { nodes = d.nodes ++ l }) (sym (own_node d.nodes node name target lt named answers))
 
 -- those alone

@@ -13,9 +13,9 @@ use Rattle.sw_mend.specs.Changes.{by_number, made_at}
 
 -- ---- what it leaves of a network
 
--- the node of its own: it answers as the other does, and has another name
+-- the node of its own: it answers as the other does, has another name, and sends no commands, so it has no limit on them
 abbrev pub target_part : ℕ → NodeEntry → List NodeEntry
-target_part number n = record n { name = n.name ++ codes "-target" } ∷ []
+target_part number n = record n { name = n.name ++ codes "-target"; outstanding = None } ∷ []
 
 -- its link to the switch, with the same receive buffers as the other's
 abbrev pub own_link : ℕ → TargetLink → LinkEntry

@@ -54,7 +54,7 @@ fn kept_reply(alloc: Global, flow: &Flow, is_unanswered: bool) -> Result<Option<
     match flow.reply() {
         Some(reply) => {
             let path = Vec::from_slice(alloc, reply.path())?;
-            Ok(Some(Reply::new(path, reply.initiator())))
+            Ok(Some(Reply::new(path, reply.initiator(), reply.outstanding())))
         }
         None => Ok(None),
     }

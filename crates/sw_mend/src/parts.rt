@@ -22,7 +22,8 @@ pub(crate) fn add_nodes(
     // Names the network, which is valid by its type.
     let _topology = network.topology();
     for node in 0..network.nodes() {
-        builder.add_node(alloc, network.node_name(node), network.target(node))?;
+        let name = network.node_name(node);
+        builder.add_node(alloc, name, network.target(node), network.outstanding(node))?;
     }
     Ok(())
 }

@@ -47,7 +47,7 @@ fn add_split_parts(
     // Names the network, which is valid by its type.
     let _topology = network.topology();
     add_nodes(alloc, network, builder)?;
-    builder.add_node(alloc, name, network.target(link.node))?;
+    builder.add_node(alloc, name, network.target(link.node), None)?;
     add_switches(alloc, network, &[], builder)?;
     add_links(network, builder)?;
     // Reads the port, which is 0 to 31.

@@ -18,7 +18,7 @@ use Rattle.sw_machine.specs.Certificate.{IsListed, IsAccepted}
 use Rattle.sw_cycle.specs.Model.{network_of}
 use Rattle.sw_cycle.specs.ModelLaws.{FlowAgrees}
 use Rattle.sw_cycle.proofs.Flows.{flow_at, some_at}
-use Rattle.sw_cycle.proofs.DeclaredNetworks.{are_networks, none_always_takes}
+use Rattle.sw_cycle.proofs.DeclaredNetworks.{are_networks}
 use Rattle.sw_cycle.proofs.Steps.{steps_agree}
 use Rattle.sw_cert.specs.Contents.{place_of, certificate_of}
 use Rattle.sw_cert.proofs.ListedPlaces.{to_machine, from_machine}
@@ -83,13 +83,13 @@ module _ (d : Declaration) (c : Contents) (valid : IsValid d) (free : IsFree d c
   unfolding network_of
   channel_count = refl
 
-  target_rises : (i j : ℕ) → i < (network_of d).flows → ((network_of d).flow i).reply ≡ Some j → slice_index c.numbers ((network_of d).into ((network_of d).flow i).to) < slice_index c.numbers ((network_of d).out ((network_of d).flow i).to)
-  target_rises i j lt has =
+  target_rises : (i j : ℕ) → i < (network_of d).flows → ((network_of d).flow i).reply ≡ Some j → (machine.AlwaysTakes (network_of d) ((network_of d).flow i).to → ⊥) → slice_index c.numbers ((network_of d).into ((network_of d).flow i).to) < slice_index c.numbers ((network_of d).out ((network_of d).flow i).to)
+  target_rises i j lt has waits =
       let to = (is.flow_ends i lt).1 in
       let out = (is.out_starts ((network_of d).flow i).to to).0 in
       let into = (is.into_ends ((network_of d).flow i).to to).0 in
       rises (depends d) (length (ends_of d)) c.numbers free.levels ((network_of d).into ((network_of d).flow i).to) ((network_of d).out ((network_of d).flow i).to) (subst (λ (n : ℕ). (network_of d).into ((network_of d).flow i).to < n) channel_count into)
-      (subst (λ (n : ℕ). (network_of d).out ((network_of d).flow i).to < n) channel_count out) (ByTarget i j lt has (none_always_takes d ((network_of d).flow i).to))
+      (subst (λ (n : ℕ). (network_of d).out ((network_of d).flow i).to < n) channel_count out) (ByTarget i j lt has waits)
 
   inside : (i : ℕ) → i < (network_of d).flows → i < length (all_flows d)
   inside i lt = subst (λ (n : ℕ). i < n) flow_count lt

@@ -1,11 +1,12 @@
 -- Whether flows are well routed, channels depend on one another, and the dependencies have a cycle, decided.
 use Rattle.std.proofs.Common.{◌≡◌, ℕ, suc, ◌+◌, ◌*◌, ◌/◌, ◌%◌, ◌<◌, ◌⊎◌, length, map, Option, Some, None, refl, sym, ◌∙◌, subst, inl, inr, arith}
 use Rattle.std.specs.Prelude.{slice_get}
-use Rattle.std.proofs.lemmas.Bool.{cases_eq, cases_lt}
+use Rattle.std.proofs.lemmas.Bool.{cases_Bool, cases_eq, cases_lt}
 use Rattle.std.proofs.lemmas.Nat.{div-mul-add, mod-mul-add}
 use Rattle.sw_topo.specs.Wiring.{out}
 use Rattle.sw_topo.proofs.Ends.{node_only}
 use Rattle.sw_config.specs.Entries.{FlowEntry, Declaration, all_flows, wiring_of}
+use Rattle.sw_config.specs.Limits.{always_takes}
 use Rattle.sw_config.specs.Valid.{IsFlow, IsValid}
 use Rattle.sw_config.proofs.Flows.{All-at}
 use Rattle.sw_config.proofs.FlowLaws.{valid_flows}
@@ -22,7 +23,7 @@ use Rattle.sw_flow.proofs.Walked.{followers_are_listed}
 use Rattle.sw_machine.specs.Places as machine
 use Rattle.sw_machine.specs.Places.IsDependency.{ByFlow, ByTarget}
 use Rattle.sw_cycle.specs.Model.{network_of}
-use Rattle.sw_cycle.proofs.DeclaredNetworks.{none_always_takes}
+use Rattle.sw_machine.proofs.AlwaysTaking.{always_takes_agrees, not_always}
 use Rattle.sw_cycle.proofs.Flows.{flow_at, flow_ends, some_at}
 use Rattle.sw_cycle.proofs.Steps.{steps_agree}
 use Rattle.sw_cycle.proofs.Topology.{into_ends, out_starts}
@@ -173,19 +174,19 @@ module _ (d : Declaration) (valid : IsValid d) where
   abbrev GoesOn : ℕ → ℕ → ℕ → Type 0
   GoesOn c e i = (k : ℕ) × (m : ℕ) × machine.IsPlace (network_of d) i c k × machine.Follows (network_of d) i c k e m
 
-  -- flow i leads by channel c to a target that answers on channel e
+  -- flow i leads by channel c to a target that answers on channel e and doesn't always take
   abbrev Answers : ℕ → ℕ → ℕ → Type 0
-  Answers c e i = (j : ℕ) × (((network_of d).flow i).reply ≡ Some j) × ((network_of d).into ((network_of d).flow i).to ≡ c) × ((network_of d).out ((network_of d).flow i).to ≡ e)
+  Answers c e i = (j : ℕ) × (((network_of d).flow i).reply ≡ Some j) × (machine.AlwaysTakes (network_of d) ((network_of d).flow i).to → ⊥) × ((network_of d).into ((network_of d).flow i).to ≡ c) × ((network_of d).out ((network_of d).flow i).to ≡ e)
 
   depends_by : (x y : ℕ) → depends d x y → (i : ℕ) × (i < (network_of d).flows) × (GoesOn x y i ⊎ Answers x y i)
   depends_by x y (ByFlow i c k e m lt place follows) = (i, lt, inl (k, m, place, follows))
-  depends_by x y (ByTarget i j lt reply waits) = (i, lt, inr (j, reply, refl, refl))
+  depends_by x y (ByTarget i j lt reply waits) = (i, lt, inr (j, reply, waits, refl, refl))
 
   by_answer : (c e i : ℕ) → i < (network_of d).flows → Answers c e i → depends d c e
   by_answer c e i lt h =
       let t : ℕ = ((network_of d).flow i).to in
-      let shown : depends d ((network_of d).into t) ((network_of d).out t) = ByTarget i h.0 lt h.1 (none_always_takes d t) in
-      subst (λ (x : ℕ). depends d x e) h.2 (subst (λ (y : ℕ). depends d ((network_of d).into t) y) h.3 shown)
+      let shown : depends d ((network_of d).into t) ((network_of d).out t) = ByTarget i h.0 lt h.1 h.2 in
+      subst (λ (x : ℕ). depends d x e) h.3 (subst (λ (y : ℕ). depends d ((network_of d).into t) y) h.4 shown)
 
   by_either : (c e i : ℕ) → i < (network_of d).flows → GoesOn c e i ⊎ Answers c e i → depends d c e
   by_either c e i lt (inl h) = ByFlow i c h.0 e h.1 lt h.2 h.3
@@ -205,9 +206,13 @@ module _ (d : Declaration) (valid : IsValid d) where
   answers_decided c e i None is = inr (λ h. let bad : None ≡ Some h.0 = sym is ∙ h.1 in cc)
   answers_decided c e i (Some j) is =
       let t : ℕ = ((network_of d).flow i).to in
-      elim (both ((network_of d).into t ≡ c) ((network_of d).out t ≡ e) (cases_eq ((network_of d).into t) c) (cases_eq ((network_of d).out t) e)) [
-        | inl h ↦ inl (j, is, h.0, h.1)
-        | inr none ↦ inr (λ h. none (h.2, h.3))
+      elim (cases_Bool (always_takes d t)) [
+        | inl always ↦ inr (λ h. h.2 ((always_takes_agrees d t).0 always))
+        | inr never ↦
+            elim (both ((network_of d).into t ≡ c) ((network_of d).out t ≡ e) (cases_eq ((network_of d).into t) c) (cases_eq ((network_of d).out t) e)) [
+              | inl h ↦ inl (j, is, not_always d t never, h.0, h.1)
+              | inr none ↦ inr (λ h. none (h.3, h.4))
+            ]
       ]
 
   one_decided : (c e i : ℕ) → i < length (all_flows d) → Decided (GoesOn c e i ⊎ Answers c e i)
