@@ -13,7 +13,7 @@ use Rattle.sw_flow.specs.Places.{ends_of, IsPlaceList}
 use Rattle.sw_cert.specs.Grammar.{HasText, IsBlock}
 use Rattle.sw_cert.specs.Text.{Contents}
 use Rattle.sw_cert.proofs.Accepted.{not_refused_is_accepted}
-use Rattle.sw_cert.proofs.Headline.{is_deadlock_free}
+use Rattle.sw_cert.proofs.Headline.{is_free}
 use Rattle.sw_cert.specs.Contents.{certificate_of}
 use Rattle.sw_search.specs.declared.verdict.Verdict.{Verdict}
 use Rattle.sw_search.specs.declared.verdict.Verdict.TheVariants.{Misrouted, Cyclic, Free}
@@ -57,7 +57,7 @@ shown_free d (Misrouted i p fault) text valid checked said none = absurd (let ba
 shown_free d (Cyclic cycle) text valid checked said none = absurd (let bad : 1 ≡ 0 = none in omega (arith, bad))
 shown_free d (Free contents) text valid checked said none =
     let accepted = (not_refused_is_accepted d contents valid).0 checked in
-    record { contents = contents; said = said; accepted = accepted; deadlock_free = is_deadlock_free d (certificate_of contents) valid accepted }
+    record { contents = contents; said = said; accepted = accepted; deadlock_free = is_free d (certificate_of contents) valid accepted }
 
 -- ---- an end with status 0
 

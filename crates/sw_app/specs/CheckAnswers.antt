@@ -7,7 +7,7 @@ use Rattle.sw_cert.specs.Reading.{State}
 use Rattle.sw_cert.specs.Text as certificate
 use Rattle.sw_cert.specs.Text.{Contents, contents_of, read_text}
 use Rattle.sw_machine.specs.Certificate.{IsAccepted}
-use Rattle.sw_machine.specs.DeadlockFreedom.{IsDeadlockFree}
+use Rattle.sw_machine.specs.DeadlockFreedom.{IsFree}
 use Rattle.sw_machine.specs.Model.{network_of}
 use Rattle.sw_cert.specs.declared.refusal.Refusal.{Refusal}
 use Rattle.sw_cert.specs.Contents.{certificate_of}
@@ -36,12 +36,13 @@ IsNetworkAnswer second (Err fault) text status = Says (line (fault_text fault �
 abbrev pub IsCheckAnswer : Option (List ℕ) → Option (List ℕ) → Answers
 IsCheckAnswer first second = IfLimited first (λ bytes. IsNetworkAnswer second (network_text bytes))
 
--- the certificate that the text says is accepted for the network, and that network never locks up, over every run
+-- the certificate that the text says is accepted for the network, and that network never locks up, over every run that keeps the limits
+-- on unanswered commands, and so over every run where it has none
 pub record IsShownDeadlockFree (d : Declaration) (bytes : List ℕ) : Type 0 where
   pub contents : Contents
   pub said : certificate.Says bytes contents
   pub accepted : IsAccepted (network_of d) (certificate_of contents)
-  pub deadlock_free : IsDeadlockFree (network_of d) (certificate_of contents)
+  pub deadlock_free : IsFree (network_of d) (certificate_of contents)
 
 -- the first file declares a network, and the second file's certificate shows that it never locks up
 pub record AreShownDeadlockFree (bytes others : List ℕ) : Type 0 where

@@ -67,11 +67,11 @@ abbrev pub IsReportAnswer : List ℕ → Answers
 IsReportAnswer bytes = OfNetwork IsFindingsAnswer (network_text bytes)
 
 -- what was written is a certificate that is accepted for the network that the bytes declare, and that network never locks up, over
--- every run
+-- every run that keeps the limits on unanswered commands
 abbrev pub WritesAccepted : List ℕ → Option (List ℕ) → Option (List ℕ) → Type 0
 WritesAccepted bytes old new = (text : List ℕ) × AreShownDeadlockFree bytes text × Appends old new text
 
 -- the reader was read to its end, and what was written is a certificate that is accepted for the network that its bytes declare; that
--- network never locks up, over every run
+-- network never locks up, over every run that keeps the limits on unanswered commands
 abbrev pub DecidesDeadlockFree : Option (List ℕ) → Option (List ℕ) → Option (List ℕ) → Option (List ℕ) → Type 0
 DecidesDeadlockFree before after old new = (bytes : List ℕ) × GivesAll before after bytes × WritesAccepted bytes old new

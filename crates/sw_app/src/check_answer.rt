@@ -2,7 +2,7 @@
 ghost use Rattle.std.specs.Prelude.{◌≡◌, IfOk, IsSomeAnd, string_bytes};
 ghost use Rattle.sw_cert.specs.Text.{read_text};
 ghost use Rattle.sw_machine.specs.Certificate.{IsAccepted};
-ghost use Rattle.sw_machine.specs.DeadlockFreedom.{IsDeadlockFree};
+ghost use Rattle.sw_machine.specs.DeadlockFreedom.{IsFree};
 ghost use Rattle.sw_machine.specs.Model.{network_of};
 ghost use Rattle.sw_cert.specs.Contents.{certificate_of};
 ghost use Rattle.sw_cert.specs.Refusals.{refusal_of};
@@ -28,7 +28,7 @@ fn judgement<W: VerdictWorkers>(
 ) -> Result<Answer, AllocError>
     ensures answer { IfOk result (λ a. IsJudgement network.now (refusal_of network.now certificate.now) (string_bytes a.text) a.status) }
     ensures accepted { IfOk result (λ a. a.status ≡ 0 → IsAccepted (network_of network.now) (certificate_of certificate.now)) }
-    ensures deadlock_free { IfOk result (λ a. a.status ≡ 0 → IsDeadlockFree (network_of network.now) (certificate_of certificate.now)) }
+    ensures deadlock_free { IfOk result (λ a. a.status ≡ 0 → IsFree (network_of network.now) (certificate_of certificate.now)) }
 {
     // Names the network, which is valid by its type.
     let _flows = network.flows();

@@ -34,7 +34,7 @@ pub fn route<R: Read, W: Write>(alloc: Global, reader: &mut R, flow: &str, write
 }
 
 /// Whether the certificate of the second text is accepted for the network of the first: 0 where it is, and then the network never
-/// locks up, over every run; 1 where it is refused. The workers share the work.
+/// locks up, over every run that keeps the limits on unanswered commands; 1 where it is refused. The workers share the work.
 pub fn check<T: VerdictWorkers, N: Read, C: Read, W: Write>(
     workers: &T,
     alloc: Global,
@@ -53,8 +53,8 @@ pub fn check<T: VerdictWorkers, N: Read, C: Read, W: Write>(
     tell_answer(writer, check_answer(workers, alloc, &first, &second))
 }
 
-/// The verdict on a network file: with status 0 a certificate, and then the network never locks up, over every run; with status 1 a
-/// cycle of dependencies, or a flow that is not well routed. The workers share the work.
+/// The verdict on a network file: with status 0 a certificate, and then the network never locks up, over every run that keeps the
+/// limits on unanswered commands; with status 1 a cycle of dependencies, or a flow that is not well routed. The workers share the work.
 pub fn decide<T: VerdictWorkers, R: Read, W: Write>(
     workers: &T,
     alloc: Global,

@@ -9,7 +9,7 @@ use Rattle.sw_app.specs.CheckAnswers.{AreShownDeadlockFree, ChecksDeadlockFree, 
 use Rattle.sw_cert.specs.Reading.{State}
 use Rattle.sw_cert.specs.Text.{contents_of, read_text}
 use Rattle.sw_cert.proofs.Accepted.{not_refused_is_accepted}
-use Rattle.sw_cert.proofs.Headline.{is_deadlock_free}
+use Rattle.sw_cert.proofs.Headline.{is_free}
 use Rattle.sw_cert.specs.Contents.{certificate_of}
 use Rattle.sw_cert.specs.Refusals.{refusal_of}
 use Rattle.sw_cert.specs.declared.refusal.Refusal.{Refusal}
@@ -38,7 +38,7 @@ of_judgement d bytes said None value status valid reads none is zero =
       contents = contents_of said;
       said = (said, reads, refl);
       accepted = accepted;
-      deadlock_free = is_deadlock_free d (certificate_of (contents_of said)) valid accepted;
+      deadlock_free = is_free d (certificate_of (contents_of said)) valid accepted;
     }
 of_judgement d bytes said (Some refusal) value status valid reads some is zero = absurd (omega (arith, is.1, zero))
 
