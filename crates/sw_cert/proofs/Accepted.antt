@@ -5,9 +5,11 @@ use Rattle.std.specs.List.{list_all, range_with_len}
 use Rattle.std.proofs.lemmas.Bool.{eqb-true, eq-eqb, leb-false, lt-leb, and_parts, and_from}
 use Rattle.std.proofs.lemmas.List.{length-map}
 use Rattle.std.proofs.lemmas.Option.{slice_get_within}
-use Rattle.sw_config.specs.Entries.{FlowEntry, ReplyEntry, Declaration, all_flows, is_answering}
+use Rattle.sw_config.specs.Entries.{FlowEntry, ReplyEntry, Declaration, all_flows}
+use Rattle.sw_config.specs.Limits.{may_make_wait}
 use Rattle.sw_config.specs.Valid.{IsValid}
 use Rattle.sw_config.proofs.AnsweringNodes.{answered_flow, answers}
+use Rattle.sw_config.proofs.Limits.{waiting_answers}
 use Rattle.sw_flow.specs.declared.place.Place.{Place}
 use Rattle.sw_flow.specs.Places.{ends_of, flow_start, out_at}
 use Rattle.sw_flow.specs.Faults.{fault_of}
@@ -19,7 +21,7 @@ use Rattle.sw_machine.specs.Places as machine
 use Rattle.sw_machine.specs.Certificate.{IsListed, IsAccepted}
 use Rattle.sw_machine.specs.Model.{reply_number, network_of}
 use Rattle.sw_machine.specs.ModelLaws.{FlowAgrees}
-use Rattle.sw_machine.proofs.DeclaredNetworks.{none_always_takes}
+use Rattle.sw_machine.proofs.AlwaysTaking.{may_wait_unless, not_always_where}
 use Rattle.sw_machine.proofs.Flows.{flow_at, some_at}
 use Rattle.sw_machine.proofs.Steps.{steps_agree}
 use Rattle.sw_cert.specs.declared.refusal.Refusal.TheVariants.{NoStart, Faulty, NotClosed, NotRising}
@@ -31,7 +33,7 @@ use Rattle.sw_cert.proofs.ListedPlaces.{to_machine, from_machine}
 use Rattle.sw_cert.proofs.Lists.{first_none, both_none, unless_none, none_unless, none_mapped, none_refused, refused_none, all_each, each_all, none_by_flow, by_flow_none, listed_place, place_listed}
 use Rattle.sw_cert.proofs.Ranged.{as_many, in_range_each, each_in_range, range_of, of_range}
 use Rattle.sw_cert.proofs.Leasts.{none_passes, passes_none}
-use Rattle.sw_cert.proofs.Answering.{answers_where_listed, its_number, listed_where_answers, some_reply}
+use Rattle.sw_cert.proofs.Answering.{its_number, listed_where_waits, some_reply, waits_where_listed}
 use Rattle.sw_cert.proofs.Reasons.{NoReason, no_reason, none_of}
 use Rattle.sw_topo.proofs.Faultless.{no_map}
 
@@ -112,11 +114,11 @@ module _ (d : Declaration) (c : Contents) (valid : IsValid d) (r : NoReason d c)
             let there : Contains (map (λ (q : Place). q.channel) (followers_of d a.flow p.channel p.deleted)) e = Contains-map (λ (q : Place). q.channel) (followers_of d a.flow p.channel p.deleted) (record { channel = e; deleted = k }) follower in
             leb-false (slice_index c.numbers e) (slice_index c.numbers p.channel) (none_passes (is_not_above c.numbers p.channel) (map (λ (q : Place). q.channel) (followers_of d a.flow p.channel p.deleted)) rises e there)
 
-    target_at : (j : ℕ) → (flow_at d i).reply ≡ Some j → slice_index c.numbers (into_at d a.flow.to) < slice_index c.numbers (out_at d a.flow.to)
-    target_at j has =
+    target_at : (j : ℕ) → (flow_at d i).reply ≡ Some j → (machine.AlwaysTakes (network_of d) a.flow.to → ⊥) → slice_index c.numbers (into_at d a.flow.to) < slice_index c.numbers (out_at d a.flow.to)
+    target_at j has never =
         let some : is_some a.flow.reply ≡ true = some_reply (reply_number d i) j a.flow.reply (sym (reply_is d i a.flow a.here) ∙ has) in
-        let nodes = filter (is_answering d) (range_with_len 0 (length d.nodes)) in
-        let node : Contains nodes a.flow.to = listed_where_answers d valid a.flow.to (answers d a.flow.to i a.flow a.here some refl) in
+        let nodes = filter (may_make_wait d) (range_with_len 0 (length d.nodes)) in
+        let node : Contains nodes a.flow.to = listed_where_waits d valid a.flow.to (may_wait_unless d a.flow.to (answers d a.flow.to i a.flow a.here some refl) never) in
         let none : least_falling d c.numbers ≡ None = no_map (λ n. NotRising (into_at d n) (out_at d n)) (least_falling d c.numbers) r.targets in
         leb-false (slice_index c.numbers (out_at d a.flow.to)) (slice_index c.numbers (into_at d a.flow.to)) (none_passes (is_falling_at d c.numbers) nodes none a.flow.to node)
 
@@ -140,9 +142,9 @@ module _ (d : Declaration) (c : Contents) (valid : IsValid d) (r : NoReason d c)
         ((agrees i a).fault e k (in_range i a p m).0 (in_range i a p m).1).1 (place_none i a p m).0;
     closed = λ i e k b m lt h step. let a = here_at i lt in closed_at i a (record { channel = e; deleted = k }) (member i a e k h) b m step;
     rising = λ i e k b m lt h step. let a = here_at i lt in rising_at i a (record { channel = e; deleted = k }) (member i a e k h) b m step;
-    targets = λ i j lt has waits.
+    targets = λ i j lt has never.
         let a = here_at i lt in
-        subst (λ (n : ℕ). slice_index c.numbers (into_at d n) < slice_index c.numbers (out_at d n)) (sym (to_is d i a.flow a.here)) (target_at i a j has);
+        subst (λ (n : ℕ). slice_index c.numbers (into_at d n) < slice_index c.numbers (out_at d n)) (sym (to_is d i a.flow a.here)) (target_at i a j has (subst (λ (n : ℕ). machine.AlwaysTakes (network_of d) n → ⊥) (to_is d i a.flow a.here) never));
   }
 
 -- ---- what is accepted is not refused
@@ -215,15 +217,15 @@ module _ (d : Declaration) (c : Contents) (valid : IsValid d) (acc : IsAccepted 
     in_it : list_all (is_in_range d f) ps ≡ true
     in_it = each_all (is_in_range d f) ps (λ p m. of_range d f p (place_in p m).0 (place_in p m).1)
 
-  target_rises : (n : ℕ) → is_answering d n ≡ true → is_falling_at d c.numbers n ≡ false
+  target_rises : (n : ℕ) → may_make_wait d n ≡ true → is_falling_at d c.numbers n ≡ false
   unfolding network_of
-  target_rises n is =
-      let a = answered_flow d n is in
+  target_rises n waits =
+      let a = answered_flow d n (waiting_answers d n waits) in
       let i : ℕ = a.number in
       let within = slice_get_within (all_flows d) i a.flow a.numbered in
       let has : (flow_at d i).reply ≡ Some (reply_number d i) = reply_is d i a.flow a.numbered ∙ its_number (reply_number d i) a.flow.reply a.replied in
       let node : (flow_at d i).to ≡ n = to_is d i a.flow a.numbered ∙ a.ends_there in
-      let rises : slice_index c.numbers (into_at d n) < slice_index c.numbers (out_at d n) = subst (λ (x : ℕ). slice_index c.numbers (into_at d x) < slice_index c.numbers (out_at d x)) node (acc.targets i (reply_number d i) within has (none_always_takes d (flow_at d i).to)) in
+      let rises : slice_index c.numbers (into_at d n) < slice_index c.numbers (out_at d n) = subst (λ (x : ℕ). slice_index c.numbers (into_at d x) < slice_index c.numbers (out_at d x)) node (acc.targets i (reply_number d i) within has (not_always_where d (flow_at d i).to (subst (λ (x : ℕ). may_make_wait d x ≡ true) (sym node) waits))) in
       lt-leb (slice_index c.numbers (out_at d n)) (slice_index c.numbers (into_at d n)) rises
 
   no_reason_at : NoReason d c
@@ -231,7 +233,7 @@ module _ (d : Declaration) (c : Contents) (valid : IsValid d) (acc : IsAccepted 
     network = and_from (length c.numbers == length (ends_of d)) (are_in_range d (all_flows d) c.places) (eq-eqb (length c.numbers) (length (ends_of d)) channels) (each_in_range d (all_flows d) c.places flows in_it);
     flows = by_flow_none (refusal_of_flow d) 0 (all_flows d) c.places (λ i f ps here there. flow_passes i f ps here there (0 + i));
     numbers = by_flow_none (not_rising_along d c.numbers) 0 (all_flows d) c.places (λ i f ps here there. along_passes i f ps here there (0 + i));
-    targets = none_mapped (λ n. NotRising (into_at d n) (out_at d n)) (least_falling d c.numbers) (passes_none (is_falling_at d c.numbers) (filter (is_answering d) (range_with_len 0 (length d.nodes))) (λ n m. target_rises n (answers_where_listed d n m)));
+    targets = none_mapped (λ n. NotRising (into_at d n) (out_at d n)) (least_falling d c.numbers) (passes_none (is_falling_at d c.numbers) (filter (may_make_wait d) (range_with_len 0 (length d.nodes))) (λ n m. target_rises n (waits_where_listed d n m)));
   }
 
 pub not_refused_is_accepted : NotRefusedIsAccepted

@@ -1,14 +1,15 @@
 -- The least number of a list that passes a test.
-use Rattle.std.proofs.Common.{◌≡◌, ℕ, suc, ◌+◌, ◌≤◌, min, Bool, true, false, cond, List, [], ◌∷◌, length, drop, Option, Some, None, is_some, Contains, refl, sym, ap, ◌∙◌, subst, ◌⊎◌, inl, inr, arith}
+use Rattle.std.proofs.Common.{◌≡◌, ℕ, suc, ◌+◌, ◌≤◌, min, Bool, true, false, cond, List, [], ◌∷◌, length, drop, Option, Some, None, Contains, refl, sym, ap, ◌∙◌, subst, ◌⊎◌, inl, inr, arith}
 use Rattle.std.specs.Prelude.{slice_get, IfSome}
 use Rattle.std.proofs.lemmas.Bool.{cases_Bool, cases_lt}
 use Rattle.sw_config.specs.Entries.{FlowEntry, Declaration, all_flows}
+use Rattle.sw_config.specs.Limits.{may_make_wait}
 use Rattle.sw_config.specs.Valid.{IsValid}
 use Rattle.sw_flow.proofs.Listed.{Contains-head, Contains-later, Contains-cases}
 use Rattle.sw_cert.specs.Least.{lesser, least, IsLeast, LeastIsLeast}
 use Rattle.sw_cert.specs.Refusals.{is_falling_at, least_falling}
 use Rattle.sw_cert.specs.Ends.{falling_end}
-use Rattle.sw_cert.proofs.Answering.{answers_where_replied, ends_of_replied, replied_where_answers}
+use Rattle.sw_cert.proofs.Answering.{ended_where_waits, waiting_ends, waits_where_ended}
 use Rattle.sw_cert.proofs.Lists.{drop_past}
 use Rattle.sw_topo.proofs.Lists.{drop_at}
 
@@ -118,18 +119,18 @@ least_same test xs ys to back = by (least test xs) (answers test xs)
 pub least_is_least : LeastIsLeast
 least_is_least test xs x = (least_is test xs x, is_the_least test xs x)
 
--- ---- nodes that answer
+-- ---- nodes that may make others wait
 
 module _ (d : Declaration) (numbers : List ℕ) where
   abbrev pub falling : List FlowEntry → Option ℕ
-  falling fs = least (is_falling_at d numbers) (ends_of_replied fs)
+  falling fs = least (is_falling_at d numbers) (waiting_ends d fs)
 
   falling_first : (f : FlowEntry) (fs : List FlowEntry) → falling (f ∷ fs) ≡ lesser (falling_end d numbers f) (falling fs)
-  falling_first f fs = by (cases_Bool (is_some f.reply))
+  falling_first f fs = by (cases_Bool (may_make_wait d f.to))
     where
-      by : (is_some f.reply ≡ true) ⊎ (is_some f.reply ≡ false) → falling (f ∷ fs) ≡ lesser (falling_end d numbers f) (falling fs)
-      by (inl has) = rw has refl
-      by (inr has_not) = rw has_not refl
+      by : (may_make_wait d f.to ≡ true) ⊎ (may_make_wait d f.to ≡ false) → falling (f ∷ fs) ≡ lesser (falling_end d numbers f) (falling fs)
+      by (inl waits) = rw waits refl
+      by (inr takes) = rw takes refl
 
   -- one flow more
   pub falling_more : (fs : List FlowEntry) (i : ℕ) (f : FlowEntry) (a b e : Option ℕ) → slice_get fs i ≡ Some f → e ≡ falling_end d numbers f → b ≡ lesser a e → lesser b (falling (drop (i + 1) fs)) ≡ lesser a (falling (drop i fs))
@@ -147,7 +148,7 @@ module _ (d : Declaration) (numbers : List ℕ) where
   pub falling_all : (i : ℕ) (a : Option ℕ) → IsValid d → length (all_flows d) ≤ i → lesser a (falling (drop i (all_flows d))) ≡ falling (all_flows d) → a ≡ least_falling d numbers
   falling_all i a valid past so_far =
       sym (falling_done (all_flows d) i a past) ∙ so_far
-      ∙ least_same (is_falling_at d numbers) (ends_of_replied (all_flows d)) _ (answers_where_replied d valid) (replied_where_answers d)
+      ∙ least_same (is_falling_at d numbers) (waiting_ends d (all_flows d)) _ (waits_where_ended d valid) (ended_where_waits d)
 
 -- a lesser number keeps what both keep
 pub IfSome-lesser : (P : ℕ → Type 0) (a b : Option ℕ) → IfSome a P → IfSome b P → IfSome (lesser a b) P

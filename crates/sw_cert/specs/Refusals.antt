@@ -3,7 +3,8 @@ use Rattle.std.specs.Prelude.{ℕ, suc, ◌==◌, ◌&&◌, nat_le, nat_lt, Bool
 use Rattle.std.specs.List.{list_all, list_any, range_with_len}
 use Rattle.sw_topo.specs.Wiring.{out, partner}
 use Rattle.sw_topo.specs.Checked.{first_of}
-use Rattle.sw_config.specs.Entries.{FlowEntry, Declaration, all_flows, is_answering}
+use Rattle.sw_config.specs.Entries.{FlowEntry, Declaration, all_flows}
+use Rattle.sw_config.specs.Limits.{may_make_wait}
 use Rattle.sw_flow.specs.declared.place.Place.{Place}
 use Rattle.sw_flow.specs.Places.{ends_of, flow_start, out_at}
 use Rattle.sw_flow.specs.Faults.{fault_of}
@@ -84,11 +85,11 @@ not_rising_along d numbers i f listed = first_refusal (not_rising_from d numbers
 abbrev pub is_falling_at : Declaration → List ℕ → ℕ → Bool
 is_falling_at d numbers n = is_not_above numbers (into_at d n) (out_at d n)
 
--- the least node that answers commands and where the numbers do not rise
+-- the least node at which what comes may have to wait for a reply and the numbers do not rise
 abbrev pub least_falling : Declaration → List ℕ → Option ℕ
-least_falling d numbers = least (is_falling_at d numbers) (filter (is_answering d) (range_with_len 0 (length d.nodes)))
+least_falling d numbers = least (is_falling_at d numbers) (filter (may_make_wait d) (range_with_len 0 (length d.nodes)))
 
--- at a node that answers, from the channel into it to the one out of it: told by the least such node
+-- at a node where what comes may have to wait for a reply, from the channel into it to the one out of it: told by the least such node
 abbrev pub not_rising_at_targets : Declaration → List ℕ → Option Refusal
 not_rising_at_targets d numbers = option_map (λ n. NotRising (into_at d n) (out_at d n)) (least_falling d numbers)
 

@@ -1,7 +1,7 @@
 //! The check of a certificate.
 ghost use Rattle.std.specs.Prelude.{◌≡◌, IfOk, MatchResult, Some, None};
 ghost use Rattle.sw_machine.specs.Certificate.{IsAccepted};
-ghost use Rattle.sw_machine.specs.DeadlockFreedom.{IsDeadlockFree};
+ghost use Rattle.sw_machine.specs.DeadlockFreedom.{IsFree};
 ghost use Rattle.sw_machine.specs.Model.{network_of};
 ghost use Rattle.sw_cert.specs.Contents.{certificate_of};
 ghost use Rattle.sw_cert.specs.Refusals.{refusal_of};
@@ -36,12 +36,13 @@ fn refusal_of<W: CheckWorkers>(
     not_rising_at_targets(network, certificate.numbers())
 }
 
-/// Checks a certificate for a network: it passes exactly where it is accepted, and then the network can't lock up, over every run.
+/// Checks a certificate for a network: it passes exactly where it is accepted, and then the network can't lock up, over every run that
+/// keeps the limits on unanswered commands, and so over every run where it has none.
 ///
 /// # Errors
 ///
 /// The first reason to refuse it: counts, then flow by flow its start and its places, and then the numbers along the flows and at
-/// the nodes that answer.
+/// the nodes where what comes may have to wait for a reply.
 ///
 /// The workers share the work, flow by flow. It takes no memory that it cannot do without: where no thread can be started, the one
 /// that there is does the work, and no answer tells of want of memory. The time is linear in the places and in what follows them, but
@@ -53,7 +54,7 @@ pub fn check<'a, W: CheckWorkers>(
 ) -> Result<Passed<'a>, Refusal>
     ensures exact { MatchResult result (λ passed. (passed ≡ network.entry.now) × (refusal_of network.entry.now certificate.now ≡ None)) (λ refusal. refusal_of network.entry.now certificate.now ≡ Some refusal) }
     ensures accepted { MatchResult result (λ _. IsAccepted (network_of network.entry.now) (certificate_of certificate.now)) (λ _. IsAccepted (network_of network.entry.now) (certificate_of certificate.now) → ⊥) }
-    ensures deadlock_free { IfOk result (λ passed. IsDeadlockFree (network_of network.entry.now) (certificate_of certificate.now)) }
+    ensures deadlock_free { IfOk result (λ passed. IsFree (network_of network.entry.now) (certificate_of certificate.now)) }
 {
     // Names the network, which is valid by its type.
     let _flows = network.flows();

@@ -25,7 +25,7 @@ impl<'a> Model for Passed<'a> {
 impl<'a> Passed<'a> {
     ghost use Rattle.std.specs.Prelude.{◌≡◌};
     ghost use Rattle.sw_machine.specs.Certificate.{IsAccepted};
-    ghost use Rattle.sw_machine.specs.DeadlockFreedom.{IsDeadlockFree};
+    ghost use Rattle.sw_machine.specs.DeadlockFreedom.{IsFree};
     ghost use Rattle.sw_machine.specs.Model.{network_of};
     ghost use Rattle.sw_cert.specs.Contents.{certificate_of};
     ghost use Rattle.sw_machine.specs.Certificate as machine;
@@ -44,9 +44,10 @@ impl<'a> Passed<'a> {
         self.network
     }
 
-    /// Some certificate is accepted for the network, and so it can't lock up: all that the certificate shows of it, over every run.
+    /// Some certificate is accepted for the network, and so it can't lock up: all that the certificate shows of it, over every run that
+    /// keeps the limits on unanswered commands, and over every run where no node has a limit.
     pub fn is_deadlock_free(&self)
-        ensures { (certificate : machine.Certificate) × IsAccepted (network_of self.now) certificate × IsDeadlockFree (network_of self.now) certificate }
+        ensures { (certificate : machine.Certificate) × IsAccepted (network_of self.now) certificate × IsFree (network_of self.now) certificate }
     {
         // Names the network, which is valid by its type.
         let _flows = self.network.flows();

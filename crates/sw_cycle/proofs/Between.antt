@@ -13,9 +13,10 @@ use Rattle.sw_config.proofs.FlowLaws.{valid_flows}
 use Rattle.sw_flow.specs.Places.{ends_of, end_of}
 use Rattle.sw_flow.proofs.Stepping.{places_are_in}
 use Rattle.sw_machine.specs.Network.{Network}
-use Rattle.sw_machine.specs.Places.{IsDependency, IsPlace, Follows}
+use Rattle.sw_machine.specs.Places.{AlwaysTakes, IsDependency, IsPlace, Follows}
 use Rattle.sw_machine.specs.Places.IsDependency.{ByFlow, ByTarget}
 use Rattle.sw_machine.specs.Model.{network_of, reply_number}
+use Rattle.sw_machine.proofs.AlwaysTaking.{may_wait_unless}
 use Rattle.sw_machine.proofs.Flows.{some_at}
 use Rattle.sw_machine.proofs.Steps.{steps_agree}
 use Rattle.sw_machine.proofs.Topology.{partner_within}
@@ -28,11 +29,11 @@ use Rattle.std.proofs.lemmas.Option.{slice_get_within}
 -- a dependency, taken apart
 pub data IsBy (net : Network) (c e : ℕ) : Type 0 where
   flow : (i k m : ℕ) → i < net.flows → IsPlace net i c k → Follows net i c k e m → IsBy net c e
-  target : (i j : ℕ) → i < net.flows → (net.flow i).reply ≡ Some j → net.into (net.flow i).to ≡ c → net.out (net.flow i).to ≡ e → IsBy net c e
+  target : (i j : ℕ) → i < net.flows → (net.flow i).reply ≡ Some j → (AlwaysTakes net (net.flow i).to → ⊥) → net.into (net.flow i).to ≡ c → net.out (net.flow i).to ≡ e → IsBy net c e
 
 apart : (net : Network) (c e : ℕ) → IsDependency net c e → IsBy net c e
 apart net c e (ByFlow i b k x m lt p f) = flow i k m lt p f
-apart net c e (ByTarget i j lt reply waits) = target i j lt reply refl refl
+apart net c e (ByTarget i j lt reply waits) = target i j lt reply waits refl refl
 
 pub has_reply : (n j : ℕ) (o : Option ReplyEntry) → option_map (λ r. n) o ≡ Some j → IsSome o
 has_reply n j None h = absurd cc
@@ -57,11 +58,12 @@ module _ (d : Declaration) (valid : IsValid d) where
         record { flow = here.0; numbered = here.1; place = (same.place c k).0 p; goes = (same.step c k e m).0 f; from = refl; to = refl },
       )
 
-  target_is : (c e i j : ℕ) → i < (network_of d).flows → ((network_of d).flow i).reply ≡ Some j → (network_of d).into ((network_of d).flow i).to ≡ c → (network_of d).out ((network_of d).flow i).to ≡ e → IsBetween d c e
+  target_is : (c e i j : ℕ) → i < (network_of d).flows → ((network_of d).flow i).reply ≡ Some j → (AlwaysTakes (network_of d) ((network_of d).flow i).to → ⊥) → (network_of d).into ((network_of d).flow i).to ≡ c → (network_of d).out ((network_of d).flow i).to ≡ e → IsBetween d c e
   unfolding network_of
-  target_is c e i j lt reply into leaves =
+  target_is c e i j lt reply never into leaves =
       let here = some_at (all_flows d) i lt in
       let f : FlowEntry = here.0 in
+      let to : ((network_of d).flow i).to ≡ f.to = rw here.1 refl in
       let is = All-at (IsFlow d.nodes) (all_flows d) i f here.1 (valid_flows d valid).0 in
       let only = node_only (wiring_of d) valid.sound f.to is.to in
       let x : ℕ = only.0 in
@@ -70,18 +72,19 @@ module _ (d : Declaration) (valid : IsValid d) where
       let enters : partner x ≡ c = rw (here.1, first) at into in
       let goes : x ≡ e = rw (here.1, first) at leaves in
       let replied : IsSome f.reply = has_reply (reply_number d i) j f.reply (rw here.1 at reply) in
+      let takes_not : AlwaysTakes (network_of d) f.to → ⊥ = subst (λ (n : ℕ). AlwaysTakes (network_of d) n → ⊥) to never in
       let before : slice_get (ends_of d) (partner (partner x)) ≡ Some (Node f.to) = ap (slice_get (ends_of d)) (partner_back x) ∙ starts in
       let low : partner x < length (ends_of d) = partner_within (wiring_of d) valid.sound x (slice_get_within (ends_of d) x (Node f.to) starts) in
       record {
         node = f.to;
-        cause = record { answered = answers d f.to i f here.1 replied refl; leaves = first ∙ ap Some goes; enters = sym enters ∙ ap partner goes };
+        cause = record { waits = may_wait_unless d f.to (answers d f.to i f here.1 replied refl) takes_not; leaves = first ∙ ap Some goes; enters = sym enters ∙ ap partner goes };
         ends = subst (λ (y : ℕ). slice_get (ends_of d) (partner y) ≡ Some (Node f.to)) enters before;
         within = subst (λ (y : ℕ). y < length (ends_of d)) enters low;
       }
 
   by_parts : (c e : ℕ) → IsBy (network_of d) c e → NoneGoesOn d c e → IsBetween d c e
   by_parts c e (flow i k m lt p f) none = absurd (flow_goes c e i k m lt p f none)
-  by_parts c e (target i j lt reply into leaves) none = target_is c e i j lt reply into leaves
+  by_parts c e (target i j lt reply never into leaves) none = target_is c e i j lt reply never into leaves
 
   pub between : (c e : ℕ) → IsDependency (network_of d) c e → NoneGoesOn d c e → IsBetween d c e
   between c e h none = by_parts c e (apart (network_of d) c e h) none
@@ -95,7 +98,7 @@ module _ (d : Declaration) (valid : IsValid d) where
 
   within_by_parts : (c e : ℕ) → IsBy (network_of d) c e → c < length (ends_of d)
   within_by_parts c e (flow i k m lt p f) = channel_within c e i k lt p
-  within_by_parts c e (target i j lt reply into leaves) = (target_is c e i j lt reply into leaves).within
+  within_by_parts c e (target i j lt reply never into leaves) = (target_is c e i j lt reply never into leaves).within
 
   pub depends_within : (c e : ℕ) → IsDependency (network_of d) c e → c < length (ends_of d)
   depends_within c e h = within_by_parts c e (apart (network_of d) c e h)

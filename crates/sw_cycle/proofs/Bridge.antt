@@ -13,9 +13,11 @@ use Rattle.sw_topo.specs.Wiring.{out, out_of, partner}
 use Rattle.sw_topo.specs.Ports.{ports_of}
 use Rattle.sw_topo.proofs.Ends.{node_only, partner_back}
 use Rattle.sw_topo.proofs.PortWalk.{ports_listed}
-use Rattle.sw_config.specs.Entries.{ReplyEntry, Declaration, all_flows, answering_marks, is_answering, wiring_of}
+use Rattle.sw_config.specs.Entries.{ReplyEntry, Declaration, all_flows, wiring_of}
+use Rattle.sw_config.specs.Limits.{may_make_wait, waiting_marks}
 use Rattle.sw_config.specs.Valid.{IsFlow, IsValid}
-use Rattle.sw_config.proofs.AnsweringNodes.{answered_flow, answering_within, answers, answers_marked, marked_answers}
+use Rattle.sw_config.proofs.AnsweringNodes.{answered_flow, answering_within, answers}
+use Rattle.sw_config.proofs.Limits.{marked_waits, waiting_answers, waits_marked}
 use Rattle.sw_config.proofs.Flows.{All-at}
 use Rattle.sw_config.proofs.FlowLaws.{valid_flows}
 use Rattle.sw_flow.specs.Places.{ends_of, end_of, look_after, deleted_behind}
@@ -23,10 +25,10 @@ use Rattle.sw_flow.specs.Places as declared
 use Rattle.sw_flow.specs.Places.IsPlace.{next}
 use Rattle.sw_flow.proofs.Listed.{Contains-filter_map, Contains-from_filter_map, Contains-head, Contains-cases}
 use Rattle.sw_flow.proofs.Stepping.{places_are_in}
-use Rattle.sw_machine.specs.Places.{IsDependency}
+use Rattle.sw_machine.specs.Places.{AlwaysTakes, IsDependency}
 use Rattle.sw_machine.specs.Places.IsDependency.{ByFlow, ByTarget}
 use Rattle.sw_machine.specs.Model.{network_of, reply_number}
-use Rattle.sw_machine.proofs.DeclaredNetworks.{none_always_takes}
+use Rattle.sw_machine.proofs.AlwaysTaking.{may_wait_unless, not_always_where}
 use Rattle.sw_machine.proofs.Flows.{flow_at, flow_ends, some_at}
 use Rattle.sw_machine.proofs.Steps.{steps_agree}
 use Rattle.sw_machine.proofs.Topology.{into_ends, out_starts}
@@ -56,7 +58,7 @@ module _ (d : Declaration) (valid : IsValid d) where
       let to = (flow_ends d valid i lt).1 in
       ((into_ends (wiring_of d) valid.sound (flow_at d i).to to).0, (out_starts (wiring_of d) valid.sound (flow_at d i).to to).0)
 
-  module _ (sets : List ℕ) (marks : List Bool) (named : AreNamed d 0 (length (all_flows d)) sets) (marked : marks ≡ answering_marks d) where
+  module _ (sets : List ℕ) (marks : List Bool) (named : AreNamed d 0 (length (all_flows d)) sets) (marked : marks ≡ waiting_marks d) where
     -- ---- what the rows list are dependencies
 
     at_switch : (c s q e : ℕ) → end_of d c ≡ Some (Switch s q) → Contains (filter_map (out_of (ends_of d) s) (ports_of (slice_index sets c))) e → IsDependency (network_of d) c e
@@ -80,10 +82,10 @@ module _ (d : Declaration) (valid : IsValid d) where
         let m : ℕ = deleted_behind (look_after d n.flow n.named.switch n.deleted) n.deleted in
         ByFlow n.number c n.deleted e m (slice_get_within (all_flows d) n.number n.flow n.numbered) ((same.place c n.deleted).1 n.place) ((same.step c n.deleted e m).1 step)
 
-    target_shows : (t c x : ℕ) → is_answering d t ≡ true → out (ends_of d) t ≡ Some x → c ≡ partner x → IsDependency (network_of d) c x
+    target_shows : (t c x : ℕ) → may_make_wait d t ≡ true → out (ends_of d) t ≡ Some x → c ≡ partner x → IsDependency (network_of d) c x
     unfolding network_of
     target_shows t c x is leaves enters =
-        let h = answered_flow d t is in
+        let h = answered_flow d t (waiting_answers d t is) in
         let i : ℕ = h.number in
         let here : slice_get (all_flows d) i ≡ Some h.flow = h.numbered in
         let below : i < length (all_flows d) = slice_get_within (all_flows d) i h.flow here in
@@ -91,7 +93,7 @@ module _ (d : Declaration) (valid : IsValid d) where
         let reply : (flow_at d i).reply ≡ Some (reply_number d i) = rw here (replied_with (reply_number d i) h.flow.reply h.replied) in
         let is_out : (network_of d).out (flow_at d i).to ≡ x = rw (to, leaves) refl in
         let is_into : (network_of d).into (flow_at d i).to ≡ c = rw (to, leaves) (sym enters) in
-        let shown : IsDependency (network_of d) ((network_of d).into (flow_at d i).to) ((network_of d).out (flow_at d i).to) = ByTarget i (reply_number d i) below reply (none_always_takes d (flow_at d i).to) in
+        let shown : IsDependency (network_of d) ((network_of d).into (flow_at d i).to) ((network_of d).out (flow_at d i).to) = ByTarget i (reply_number d i) below reply (not_always_where d (flow_at d i).to (subst (λ (n : ℕ). may_make_wait d n ≡ true) (sym to) is)) in
         subst (λ (y : ℕ). IsDependency (network_of d) y x) is_into (subst (λ (y : ℕ). IsDependency (network_of d) ((network_of d).into (flow_at d i).to) y) is_out shown)
 
     at_node : (c t e : ℕ) → end_of d c ≡ Some (Node t) → Contains (if is_marked marks t then option_to_list (out (ends_of d) t) else []) e → IsDependency (network_of d) c e
@@ -99,12 +101,12 @@ module _ (d : Declaration) (valid : IsValid d) where
         elim (cases_Bool (is_marked marks t)) [
           | inr unset ↦ absurd (none_in e (rw unset at h))
           | inl set ↦
-              let answered = marked_answers d t (subst (λ (l : List Bool). is_marked l t ≡ true) marked set) in
-              let only = node_only (wiring_of d) valid.sound t (answering_within d valid t answered) in
+              let waits = marked_waits d t (subst (λ (l : List Bool). is_marked l t ≡ true) marked set) in
+              let only = node_only (wiring_of d) valid.sound t (answering_within d valid t (waiting_answers d t waits)) in
               let one : Contains (only.0 ∷ []) e = rw (set, only.1.first) at h in
               elim (Contains-cases only.0 e [] one) [
                 | inr none ↦ absurd (none_in e none)
-                | inl is ↦ subst (λ (y : ℕ). IsDependency (network_of d) c y) is (target_shows t c only.0 answered only.1.first (only.1.ends.alone c at))
+                | inl is ↦ subst (λ (y : ℕ). IsDependency (network_of d) c y) is (target_shows t c only.0 waits only.1.first (only.1.ends.alone c at))
               ]
         ]
 
@@ -115,10 +117,10 @@ module _ (d : Declaration) (valid : IsValid d) where
 
     -- ---- the rows list all dependencies
 
-    target_listed : (t x : ℕ) → is_answering d t ≡ true → out (ends_of d) t ≡ Some x → slice_get (ends_of d) x ≡ Some (Node t) → Contains (row_at_end (ends_of d) (slice_index sets (partner x)) marks (end_of d (partner x))) x
+    target_listed : (t x : ℕ) → may_make_wait d t ≡ true → out (ends_of d) t ≡ Some x → slice_get (ends_of d) x ≡ Some (Node t) → Contains (row_at_end (ends_of d) (slice_index sets (partner x)) marks (end_of d (partner x))) x
     target_listed t x h leaves starts =
         let at : end_of d (partner x) ≡ Some (Node t) = ap (slice_get (ends_of d)) (partner_back x) ∙ starts in
-        let set : is_marked marks t ≡ true = subst (λ (l : List Bool). is_marked l t ≡ true) (sym marked) (answers_marked d valid t h) in
+        let set : is_marked marks t ≡ true = subst (λ (l : List Bool). is_marked l t ≡ true) (sym marked) (waits_marked d valid t h) in
         rw (at, set, leaves) (Contains-head x [])
 
     depends_listed : (c e : ℕ) → IsDependency (network_of d) c e → Contains (row_at_end (ends_of d) (slice_index sets c) marks (end_of d c)) e
@@ -141,13 +143,14 @@ module _ (d : Declaration) (valid : IsValid d) where
         } in
         let listed = ((ports_listed (slice_index sets c)).members s.named.port).1 (s.named.is_port, (named.ports c s.named.port).1 n) in
         rw s.ends (Contains-filter_map (out_of (ends_of d) s.switch) (ports_of (slice_index sets c)) s.named.port e listed s.named.linked)
-    depends_listed x y (ByTarget i j lt reply waits) =
+    depends_listed x y (ByTarget i j lt reply never) =
         let f = some_at (all_flows d) i lt in
         let to : (flow_at d i).to ≡ f.0.to = rw f.1 refl in
         let is = All-at (IsFlow d.nodes) (all_flows d) i f.0 f.1 (valid_flows d valid).0 in
         let only = node_only (wiring_of d) valid.sound f.0.to is.to in
-        let answered : is_answering d f.0.to ≡ true = answers d f.0.to i f.0 f.1 (has_reply (reply_number d i) j f.0.reply (rw f.1 at reply)) refl in
-        rw (to, only.1.first) (target_listed f.0.to only.0 answered only.1.first only.1.starts.here)
+        let takes_not : AlwaysTakes (network_of d) f.0.to → ⊥ = subst (λ (n : ℕ). AlwaysTakes (network_of d) n → ⊥) to never in
+        let waits = may_wait_unless d f.0.to (answers d f.0.to i f.0 f.1 (has_reply (reply_number d i) j f.0.reply (rw f.1 at reply)) refl) takes_not in
+        rw (to, only.1.first) (target_listed f.0.to only.0 waits only.1.first only.1.starts.here)
 
     row_exact : (c e : ℕ) → Contains (row_of d sets marks c) e ↔ IsDependency (network_of d) c e
     unfolding row_of

@@ -1,5 +1,5 @@
 -- What causes and shown cycles show: dependencies, and cycles of them.
-use Rattle.std.proofs.Common.{◌≡◌, ℕ, suc, ◌+◌, ◌%◌, ◌<◌, ◌≤◌, List, [], ◌∷◌, ◌++◌, length, get_or, Option, Some, None, refl, sym, ap, ◌∙◌, subst, arith, ◌⊎◌, inl, inr}
+use Rattle.std.proofs.Common.{◌≡◌, ℕ, suc, ◌+◌, ◌%◌, ◌<◌, ◌≤◌, List, [], ◌∷◌, ◌++◌, length, get_or, Option, Some, None, refl, sym, ap, ◌∙◌, subst, arith, ◌⊎◌, inl, inr, true}
 use Rattle.std.specs.Prelude.{slice_get, IsSome}
 use Rattle.std.specs.Option.{option_map}
 use Rattle.std.proofs.Math.Nat.{mod-eq_of_lt, mod_self}
@@ -9,6 +9,8 @@ use Rattle.std.proofs.lemmas.Option.{slice_get_within}
 use Rattle.sw_config.specs.Entries.{FlowEntry, ReplyEntry, Declaration, all_flows}
 use Rattle.sw_config.specs.Valid.{IsValid}
 use Rattle.sw_config.proofs.AnsweringNodes.{answered_flow}
+use Rattle.sw_config.proofs.Limits.{waiting_answers}
+use Rattle.sw_config.specs.Limits.{may_make_wait}
 use Rattle.sw_flow.specs.declared.place.Place.{Place}
 use Rattle.sw_flow.specs.Places.{IsPlace}
 use Rattle.sw_flow.specs.Places.IsPlace.{start, next}
@@ -17,7 +19,7 @@ use Rattle.sw_machine.specs.Network.{Network}
 use Rattle.sw_machine.specs.Places.{IsChain, IsCycle, IsDependency}
 use Rattle.sw_machine.specs.Places.IsDependency.{ByFlow, ByTarget}
 use Rattle.sw_machine.specs.Model.{network_of, reply_number}
-use Rattle.sw_machine.proofs.DeclaredNetworks.{none_always_takes}
+use Rattle.sw_machine.proofs.AlwaysTaking.{not_always_where}
 use Rattle.sw_machine.proofs.Flows.{flow_at, some_at}
 use Rattle.sw_machine.proofs.Steps.{steps_agree}
 use Rattle.sw_cycle.specs.Cycles as cycles
@@ -45,7 +47,7 @@ module _ (d : Declaration) where
     target_shows : (t c e : ℕ) → IsTargetCause d t c e → IsDependency (network_of d) c e
     unfolding network_of
     target_shows t c e h =
-        let a = answered_flow d t h.answered in
+        let a = answered_flow d t (waiting_answers d t h.waits) in
         let i : ℕ = a.number in
         let here : slice_get (all_flows d) i ≡ Some a.flow = a.numbered in
         let below : i < length (all_flows d) = slice_get_within (all_flows d) i a.flow here in
@@ -53,7 +55,7 @@ module _ (d : Declaration) where
         let reply : (flow_at d i).reply ≡ Some (reply_number d i) = rw here (replied (reply_number d i) a.flow.reply a.replied) in
         let leaves : (network_of d).out (flow_at d i).to ≡ e = rw (to, h.leaves) refl in
         let enters : (network_of d).into (flow_at d i).to ≡ c = rw (to, h.leaves) (sym h.enters) in
-        let shown : IsDependency (network_of d) ((network_of d).into (flow_at d i).to) ((network_of d).out (flow_at d i).to) = ByTarget i (reply_number d i) below reply (none_always_takes d (flow_at d i).to) in
+        let shown : IsDependency (network_of d) ((network_of d).into (flow_at d i).to) ((network_of d).out (flow_at d i).to) = ByTarget i (reply_number d i) below reply (not_always_where d (flow_at d i).to (subst (λ (n : ℕ). may_make_wait d n ≡ true) (sym to) h.waits)) in
         subst (λ (x : ℕ). IsDependency (network_of d) x e) enters (subst (λ (y : ℕ). IsDependency (network_of d) ((network_of d).into (flow_at d i).to) y) leaves shown)
 
     flow_shows : (i : ℕ) (places : List Place) (c e : ℕ) → IsFlowCause d i places c e → IsDependency (network_of d) c e

@@ -1,14 +1,15 @@
 -- Cycles of dependencies between channels, each dependency shown by its cause.
 use Rattle.std.specs.Prelude.{◌≡◌, ℕ, ◌+◌, ◌%◌, ◌<◌, List, [], ◌∷◌, ◌++◌, length, slice_get, slice_index, Some, true}
 use Rattle.sw_topo.specs.Wiring.{out, partner}
-use Rattle.sw_config.specs.Entries.{FlowEntry, Declaration, all_flows, is_answering}
+use Rattle.sw_config.specs.Entries.{FlowEntry, Declaration, all_flows}
+use Rattle.sw_config.specs.Limits.{may_make_wait}
 use Rattle.sw_flow.specs.declared.place.Place.{Place}
 use Rattle.sw_flow.specs.Places.{ends_of}
 use Rattle.sw_flow.specs.Ways.{GoesFromStart}
 use Rattle.sw_cycle.specs.declared.cycle.Cause.{Cause}
 use Rattle.sw_cycle.specs.declared.cycle.Cause.TheVariants.{Target, Flow}
 
--- Why a packet on one channel may wait for another: a target that answers, by its node's number, or a flow, by its number (reply
+-- Why a packet on one channel may wait for another: a target that may make others wait, by its node's number, or a flow, by its number (reply
 -- flows counted on from the declared ones), with places that it goes over.
 pub data CauseEntry : Type 0 where
   ByTarget : (node : ℕ) → CauseEntry
@@ -23,10 +24,10 @@ abbrev pub cause_of : Cause → CauseEntry
 cause_of (Target node) = ByTarget node
 cause_of (Flow flow places) = ByFlow flow places.items
 
--- Node t answers commands, channel c ends there, and channel e starts there: while the target sends a reply on e it takes nothing
--- from c (this project's choice).
+-- What comes to node t may have to wait until it has sent a reply, channel c ends there, and channel e starts there: while the target
+-- owes as many replies as it may, and sends one on e, it takes nothing from c (this project's choice).
 pub record IsTargetCause (d : Declaration) (t c e : ℕ) : Type 0 where
-  pub answered : is_answering d t ≡ true
+  pub waits : may_make_wait d t ≡ true
   pub leaves : out (ends_of d) t ≡ Some e
   pub enters : c ≡ partner e
 

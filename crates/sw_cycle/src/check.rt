@@ -15,7 +15,7 @@ fn is_target_cause(network: &Network, node: u16, from: Chan, to: Chan) -> bool
     if node >= topology.nodes() {
         return false;
     }
-    topology.out(node) == to && to.partner() == from && network.is_answering(node)
+    topology.out(node) == to && to.partner() == from && network.may_make_wait(node)
 }
 
 /// Does the flow go from the place over these places, by one step to each?

@@ -30,7 +30,7 @@ fn rows_from(
 {
     // Names the network, which is valid by its type.
     let _topology = network.topology();
-    let marks = network.answering_nodes(alloc)?;
+    let marks = network.waiting_nodes(alloc)?;
     let mut rows = Vec::new(alloc);
     for channel in 0..network.channels() {
         let ports = sets[usize::from(channel)];
@@ -70,8 +70,8 @@ pub fn routed_dependencies<W: PortWorkers>(
 }
 
 /// For each channel those on which a packet that is on it may wait, by their numbers: where a flow
-/// goes on to (Dally and Seitz: channel dependency), and at a target that answers, where its replies
-/// leave (this project's choice). A row has each of them once.
+/// goes on to (Dally and Seitz: channel dependency), and at a target that answers and does not always
+/// take what comes, where its replies leave (this project's choice). A row has each of them once.
 ///
 /// `places` has the places of each flow, reply flows too, as `sw_flow::all_places` gives them.
 ///

@@ -3,10 +3,10 @@ use Rattle.std.proofs.Common.{◌≡◌, ℕ, zero, suc, ◌<◌, ◌==◌, ◌&
 use Rattle.std.specs.Prelude.{nat_lt, not, slice_get}
 use Rattle.std.specs.List.{list_all}
 use Rattle.std.specs.Option.{option_map_or}
-use Rattle.std.proofs.lemmas.Bool.{and_from, and_parts, cases_Bool, cases_eq, eqb-true}
+use Rattle.std.proofs.lemmas.Bool.{and_from, and_parts, cases_Bool, cases_eq, eqb-true, false_from_ne_true}
 use Rattle.std.proofs.lemmas.Option.{slice_get_within}
-use Rattle.sw_flow.specs.Entries.{Declaration, FlowEntry, all_flows, target_of}
-use Rattle.sw_flow.specs.Limits.{all_limited_at, always_takes, is_limited, limit_at}
+use Rattle.sw_flow.specs.Entries.{Declaration, FlowEntry, all_flows, is_answering, target_of}
+use Rattle.sw_flow.specs.Limits.{all_limited_at, always_takes, is_limited, limit_at, may_make_wait}
 use Rattle.sw_rmap.specs.Targets.{slots_of}
 use Rattle.sw_machine.proofs.Flows.{flow_at, some_at}
 use Rattle.sw_machine.specs.Model.{network_of, reply_number}
@@ -86,3 +86,15 @@ always_takes_agrees d n = (λ h. takes_by d n (limit_at d n) refl h, takes_back 
 -- where it may make wait by its declaration, it does not always take in the machine
 pub not_always : (d : Declaration) (n : ℕ) → always_takes d n ≡ false → AlwaysTakes (network_of d) n → ⊥
 not_always d n never always = let yes = takes_back d n always in cc
+
+-- what comes to a node that answers may have to wait by its declaration exactly where it does not always take in the machine
+pub may_wait_unless : (d : Declaration) (n : ℕ) → is_answering d n ≡ true → (AlwaysTakes (network_of d) n → ⊥) → may_make_wait d n ≡ true
+may_wait_unless d n answers never =
+    and_from (is_answering d n) (not (always_takes d n)) answers (ap not (false_from_ne_true (always_takes d n) (λ always. never (takes_by d n (limit_at d n) refl always))))
+
+pub not_always_where : (d : Declaration) (n : ℕ) → may_make_wait d n ≡ true → AlwaysTakes (network_of d) n → ⊥
+not_always_where d n waits = not_always d n (not_true (always_takes d n) (and_parts (is_answering d n) (not (always_takes d n)) waits).1)
+  where
+    not_true : (b : Bool) → not b ≡ true → b ≡ false
+    not_true true e = sym e
+    not_true false e = refl

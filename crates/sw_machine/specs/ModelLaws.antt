@@ -4,10 +4,12 @@ use Rattle.sw_rmap.specs.declared.config.TargetConfig.{TargetConfig}
 use Rattle.sw_flow.specs.Looks.{NamesOutput}
 use Rattle.sw_flow.specs.Entries.{FlowEntry, Declaration, all_flows, look_at, target_of}
 use Rattle.sw_flow.specs.Limits.{always_takes}
+use Rattle.sw_flow.specs.Limits as declared_limits
 use Rattle.sw_flow.specs.Valid.{IsValid}
 use Rattle.sw_flow.specs.Places as declared
 use Rattle.sw_flow.specs.Faults as declared_faults
 use Rattle.sw_machine.specs.Network.{IsDeclared, IsNetwork}
+use Rattle.sw_machine.specs.Limits.{HasNoLimits}
 use Rattle.sw_machine.specs.Places as machine
 use Rattle.sw_machine.specs.Runs.{IsReached}
 use Rattle.sw_machine.specs.State.{State}
@@ -47,6 +49,10 @@ LooksAgree = (d : Declaration) (s byte : ℕ) → LookAgrees d s byte
 -- a node always takes what comes by its declaration exactly where it does in the machine
 abbrev pub AlwaysTakesAgrees : Type 0
 AlwaysTakesAgrees = (d : Declaration) (n : ℕ) → (always_takes d n ≡ true) ↔ machine.AlwaysTakes (network_of d) n
+
+-- where no node and no flow of a valid network has a limit, no node has one in the machine, so each run keeps the limits
+abbrev pub WithoutOutstandingNoLimits : Type 0
+WithoutOutstandingNoLimits = (d : Declaration) → IsValid d → declared_limits.HasNoLimits d → HasNoLimits (network_of d)
 
 -- in each reached state a target's memory has as many bytes as its window
 abbrev pub MemoriesKeepTheirLength : Type 0

@@ -1,5 +1,5 @@
 //! What holds of the machine's network of a declared network. These functions do nothing: each is the proof of what its clause says.
-ghost use Rattle.sw_machine.specs.ModelLaws.{AlwaysTakesAgrees, DeclaredNetworksAreNetworks, DeclaredPacketsAgree, DeclaredPacketsPass, LooksAgree, MemoriesKeepTheirLength, StepsOfFlowsAgree};
+ghost use Rattle.sw_machine.specs.ModelLaws.{AlwaysTakesAgrees, DeclaredNetworksAreNetworks, DeclaredPacketsAgree, DeclaredPacketsPass, LooksAgree, MemoriesKeepTheirLength, StepsOfFlowsAgree, WithoutOutstandingNoLimits};
 
 /// Each valid network is one of the machine's.
 pub fn declared_networks_are_networks()
@@ -19,6 +19,11 @@ pub fn looks_agree()
 /// A node always takes what comes by its declaration exactly where it does in the machine.
 pub fn always_takes_agrees()
     ensures { AlwaysTakesAgrees }
+{}
+
+/// Where no node and no flow of a valid network has a limit on unanswered commands, no node has one in the machine.
+pub fn without_outstanding_no_limits()
+    ensures { WithoutOutstandingNoLimits }
 {}
 
 /// In each state that a declared network reaches, each target's memory has as many bytes as its

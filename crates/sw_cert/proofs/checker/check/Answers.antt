@@ -1,7 +1,7 @@
 use Rattle.std.proofs.Common.{sym, ◌≡◌, ◌∙◌}
 use Rattle.std.specs.Prelude.{None, Some}
 use Rattle.sw_cert.specs.Contents.{certificate_of}
-use Rattle.sw_cert.proofs.Headline.{is_deadlock_free}
+use Rattle.sw_cert.proofs.Headline.{is_free}
 use Rattle.sw_cert.proofs.Accepted.{not_refused_is_accepted}
 use Rattle.sw_cert.proofs.checker.check.Goals as goal
 
@@ -10,7 +10,7 @@ new-requires g c = (not_refused_is_accepted c.args.network.now c.args.certificat
 
 pub returns-in-None-clause-deadlock_free : goal.returns-in-None-clause-deadlock_free
 returns-in-None-clause-deadlock_free g c =
-    is_deadlock_free c.args.network.now (certificate_of c.args.certificate.now) c.flows-flows.ensures.valid ((not_refused_is_accepted c.args.network.now c.args.certificate.now c.flows-flows.ensures.valid).0 (sym c.in-None.ensures))
+    is_free c.args.network.now (certificate_of c.args.certificate.now) c.flows-flows.ensures.valid ((not_refused_is_accepted c.args.network.now c.args.certificate.now c.flows-flows.ensures.valid).0 (sym c.in-None.ensures))
 
 pub returns-in-None-clause-accepted : goal.returns-in-None-clause-accepted
 returns-in-None-clause-accepted g c = (not_refused_is_accepted c.args.network.now c.args.certificate.now c.flows-flows.ensures.valid).0 (sym c.in-None.ensures)
