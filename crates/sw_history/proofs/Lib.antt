@@ -1,6 +1,7 @@
 pub mod Follows
 pub mod Adds
 mod Counts
+pub mod Commands
 mod Idle
 mod Kept
 pub mod Ready

@@ -224,7 +224,7 @@ no_beginning (Reply n) e = refl
 pub beginnings_push : (steps : List Step) (step : Step) → beginnings (steps ++ step ∷ []) ≡ beginnings steps ++ beginning step
 beginnings_push steps step = flat_map-append beginning steps (step ∷ []) ∙ ap (λ l. beginnings steps ++ l) (append-nil (beginning step))
 
-beginnings_stay : (steps : List Step) (step : Step) → is_begin step ≡ false → beginnings (steps ++ step ∷ []) ≡ beginnings steps
+pub beginnings_stay : (steps : List Step) (step : Step) → is_begin step ≡ false → beginnings (steps ++ step ∷ []) ≡ beginnings steps
 beginnings_stay steps step e = beginnings_push steps step ∙ ap (λ l. beginnings steps ++ l) (no_beginning step e) ∙ append-nil (beginnings steps)
 
 -- 1 where less is owed than before: a reply was sent whole
