@@ -1,7 +1,7 @@
 -- What is unanswered, by the counts of a history.
 use Rattle.std.proofs.Common.{Bool, List, None, Option, Some, [], ap, append-nil, arith, count_by, eq-eqb, false, get_or, is_some, le-ltb, length, length-set, lt-ltb, nat_eq, nat_lt, ne_eqb, refl, subst, sym, true, ℕ, ⊎_elim, ◌+◌, ◌++◌, ◌-◌, ◌<◌, ◌∙◌, ◌∷◌, ◌≡◌, ◌≢◌, ◌≤◌}
 use Rattle.std.proofs.Math.Nat.{min-eq_left, min-eq_right}
-use Rattle.std.proofs.lemmas.Bool.{cases_eq, cases_lt, false≢true}
+use Rattle.std.proofs.lemmas.Bool.{and_from, cases_eq, cases_lt, false≢true}
 use Rattle.std.proofs.lemmas.List.{get_or-set_other, get_or-set_same}
 use Rattle.std.proofs.lemmas.List.Sums.{count_by-le-length}
 use Rattle.std.proofs.lemmas.Option.{same_Some, slice_get_within}
@@ -39,17 +39,17 @@ use Rattle.sw_machine.specs.Steps.{Begin, Emit, Leads, Step, is_begin}
 -- a count that stays at its greatest number counts on
 min_more : (a k m : ℕ) → min (min a m + k) m ≡ min (a + k) m
 min_more a k m = ⊎_elim
-    (λ lt. ap (λ x. min (x + k) m) (min-eq_left {a} {m} (omega arith)))
+    (λ lt. ap (λ x. min (x + k) m) (min-eq_left {n = a} {m = m} (omega arith)))
     (λ ge.
-    ap (λ x. min (x + k) m) (min-eq_right {a} {m} (omega arith))
-    ∙ min-eq_right {m + k} {m} (omega arith) ∙ sym (min-eq_right {a + k} {m} (omega arith)))
+    ap (λ x. min (x + k) m) (min-eq_right {n = m} {m = a} (omega arith))
+    ∙ min-eq_right {n = m} {m = m + k} (omega arith) ∙ sym (min-eq_right {n = m} {m = a + k} (omega arith)))
     (cases_lt a m)
 
 -- less than its greatest number is left of as much as of the whole
 min_less : (c a m : ℕ) → c ≤ m → c - min a m ≡ c - a
 min_less c a m few = ⊎_elim
-    (λ lt. ap (λ x. c - x) (min-eq_left {a} {m} (omega arith)))
-    (λ ge. ap (λ x. c - x) (min-eq_right {a} {m} (omega arith)) ∙ omega arith)
+    (λ lt. ap (λ x. c - x) (min-eq_left {n = a} {m = m} (omega arith)))
+    (λ ge. ap (λ x. c - x) (min-eq_right {n = m} {m = a} (omega arith)) ∙ omega arith)
     (cases_lt a m)
 
 below_from : (a b : ℕ) → nat_lt a b ≡ true → a < b
@@ -71,7 +71,7 @@ module _ (d : Declaration) (valid : IsValid d) where
   unfolding network_of
   limit_is n = refl
 
-  nodes_is : net.nodes ≡ length d.nodes
+  pub nodes_is : net.nodes ≡ length d.nodes
   unfolding network_of
   nodes_is = refl
 
@@ -134,7 +134,7 @@ module _ (d : Declaration) (valid : IsValid d) where
         by (Some r) has (Some l) limit so =
             let same : (entry.to, l) ≡ p = same_Some (entry.to, l) p (sym (commanded_is entry (Some r) has (Some l) limit) ∙ so) in
             let node : entry.to ≡ p.0 = ap (λ (q : ℕ × ℕ). q.0) same in
-            let answered : (is_some entry.reply && (entry.to == entry.to)) ≡ true = rw (has, eq-eqb entry.to entry.to refl) refl in
+            let answered : (is_some entry.reply && (entry.to == entry.to)) ≡ true = and_from (is_some entry.reply) (entry.to == entry.to) (ap is_some has) (eq-eqb entry.to entry.to refl) in
             let limited = limited_flow d valid.flows entry.to l limit b.flow entry packet.declared answered in
             let to = end_is ∙ node in (
               to,
@@ -239,8 +239,8 @@ module _ (d : Declaration) (valid : IsValid d) where
         where
           few : (sent count : ℕ) → count ≡ min sent 4294967295 → count ≤ 4294967295
           few sent count is = ⊎_elim
-              (λ lt. let m = min-eq_left {sent} {4294967295} (omega arith) in omega arith)
-              (λ ge. let m = min-eq_right {sent} {4294967295} (omega arith) in omega arith)
+              (λ lt. let m = min-eq_left {n = sent} {m = 4294967295} (omega arith) in omega arith)
+              (λ ge. let m = min-eq_right {n = 4294967295} {m = sent} (omega arith) in omega arith)
               (cases_lt sent 4294967295)
 
       none_sent : (w : Counting) (n limit : ℕ) → limit_at d n ≡ Some limit → (step ≡ Emit n → ⊥) → slice_index (counted_at t c w).replies n ≡ slice_index c.replies n → IsCountedOn w n
@@ -248,7 +248,7 @@ module _ (d : Declaration) (valid : IsValid d) where
           let zero = stays (s.owed n) (t.owed n) (owes_still net (are_networks d valid) n s step t leads other) in
           let few = few_replies n limit has in
           let e : slice_index c.replies n + one_sent (s.owed n) (t.owed n) ≡ slice_index c.replies n = omega arith in
-          same ∙ sym (ap (λ k. min k 4294967295) e ∙ min-eq_left {slice_index c.replies n} {4294967295} few)
+          same ∙ sym (ap (λ k. min k 4294967295) e ∙ min-eq_left {n = slice_index c.replies n} {m = 4294967295} few)
 
       counted_replies : (w : Counting) → IsWatched d s step w → (n limit : ℕ) → limit_at d n ≡ Some limit → IsCountedOn w n
       counted_replies Nothing watched n limit has = none_sent Nothing n limit has (λ emits. absurd (let bad = watched.emits n limit emits has in cc)) refl
@@ -287,7 +287,7 @@ module _ (d : Declaration) (valid : IsValid d) where
               let zero : one_sent (s.owed n) (t.owed n) ≡ 0 = ap (λ k. if k then 1 else 0) less in
               let few = few_replies n limit has in
               let e : slice_index c.replies n + one_sent (s.owed n) (t.owed n) ≡ slice_index c.replies n = omega arith in
-              after_is false is ∙ sym (ap (λ k. min k 4294967295) e ∙ min-eq_left {slice_index c.replies n} {4294967295} few))
+              after_is false is ∙ sym (ap (λ k. min k 4294967295) e ∙ min-eq_left {n = slice_index c.replies n} {m = 4294967295} few))
               (λ (ne : m ≡ n → ⊥). none_sent (Owes m before) n limit has (other ne) (after_is false is))
               (cases_eq m n)
 

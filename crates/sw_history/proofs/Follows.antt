@@ -3,7 +3,7 @@ use Rattle.std.proofs.Common.{◌≡◌, ◌++◌, ◌∷◌, ◌∙◌, [], ℕ
 use Rattle.std.specs.Prelude.{slice_get}
 use Rattle.sw_history.specs.Laws.{FollowsWherePossible, OneStateAfter}
 use Rattle.sw_load.proofs.Grown.{begun_at_last, grows, its_own, keeps_last, run_determined, split_last}
-use Rattle.sw_load.specs.History.{BeginsNext, IsHistory, packets_at}
+use Rattle.sw_load.specs.History.{BeginsNext, IsHistory, KeepsLimit, packets_at}
 use Rattle.sw_machine.specs.Begun.{Begun, beginnings}
 use Rattle.sw_machine.specs.Network.{Network}
 use Rattle.sw_machine.specs.Runs.{Run}
@@ -47,10 +47,16 @@ module _ (net : Network) (packets : List Begun) where
         let same = run_determined net steps (empty net) s last.0 h.run last.1 in
         (t, subst (λ m. Leads net m step t) same last.2)
 
+    keeps_of : (step : Step) (t : State) → IsHistory net packets (steps ++ step ∷ []) t → KeepsLimit net steps s step
+    keeps_of step t k =
+        let last = split_last net steps step (empty net) t k.run in
+        let same = run_determined net steps (empty net) s last.0 h.run last.1 in
+        keeps_last net steps s step t k.run (subst (λ m. Leads net m step t) same last.2) k.keeps
+
 pub follows_where_possible : FollowsWherePossible
 follows_where_possible net packets steps s h step = (
-  λ may. (possible_of net packets steps s h step may.0 may.1, next_of net packets steps s h step may.0 may.1),
-  λ is. (is.0.0, grows net packets steps s h step is.0.0 is.0.1 is.1),
+  λ may. (possible_of net packets steps s h step may.0 may.1, next_of net packets steps s h step may.0 may.1, keeps_of net packets steps s h step may.0 may.1),
+  λ is. (is.0.0, grows net packets steps s h step is.0.0 is.0.1 is.1 is.2),
 )
 
 -- a step that begins no packet asks for nothing of the packets
@@ -66,3 +72,17 @@ no_begin_next net packets steps (Spill c) h = tt
 no_begin_next net packets steps (Emit m) h = tt
 no_begin_next net packets steps (Accept m) h = tt
 no_begin_next net packets steps (Reply m) h = tt
+
+-- nor of the limit on unanswered commands
+pub no_begin_keeps : (net : Network) (steps : List Step) (s : State) (step : Step) → is_begin step ≡ false → KeepsLimit net steps s step
+no_begin_keeps net steps s (Begin f cargo end) h = absurd cc
+no_begin_keeps net steps s (Fct c) h = tt
+no_begin_keeps net steps s (FctIn c) h = tt
+no_begin_keeps net steps s (Arrive c) h = tt
+no_begin_keeps net steps s (Grant e c) h = tt
+no_begin_keeps net steps s (Drop c) h = tt
+no_begin_keeps net steps s (Forward c) h = tt
+no_begin_keeps net steps s (Spill c) h = tt
+no_begin_keeps net steps s (Emit m) h = tt
+no_begin_keeps net steps s (Accept m) h = tt
+no_begin_keeps net steps s (Reply m) h = tt

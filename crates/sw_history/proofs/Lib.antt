@@ -4,6 +4,10 @@ mod Counts
 pub mod Commands
 mod Idle
 mod Kept
+mod Zero
+mod Watching
+pub mod Within
+mod CountedOn
 pub mod Ready
 mod Refused
 mod Whole

@@ -1,5 +1,5 @@
 -- How many commands are unanswered, counted by node.
-use Rattle.std.specs.Prelude.{Bool, List, None, Option, Some, count_by, false, if◌then◌else◌, is_some, length, min, nat_lt, option_map, replicate, slice_get, slice_index, slice_set, true, ℕ, ◌+◌, ◌-◌, ◌≡◌, ◌≤◌}
+use Rattle.std.specs.Prelude.{Bool, List, None, Option, Some, count_by, false, if◌then◌else◌, is_some, length, min, nat_lt, option_map, replicate, slice_get, slice_index, slice_set, true, ℕ, ◌+◌, ◌-◌, ◌<◌, ◌≡◌, ◌≤◌}
 use Rattle.std.specs.Option.{option_map_or}
 use Rattle.sw_config.specs.Entries.{Declaration, FlowEntry}
 use Rattle.sw_config.specs.Limits.{limit_at}
@@ -54,6 +54,12 @@ within_limit d c (Some b) = if has_room d c b.flow then Some b else None
 abbrev pub command_to : Option (ℕ × ℕ) → Counting
 command_to None = Nothing
 command_to (Some p) = Command p.0
+
+-- it is counted at a node of the network; a command at one with a limit
+abbrev pub IsInside : Declaration → Counting → Type 0
+IsInside d Nothing = Unit {0}
+IsInside d (Command n) = (n < length d.nodes) × (limit : ℕ) × (limit_at d n ≡ Some limit)
+IsInside d (Owes n before) = n < length d.nodes
 
 -- the counts behind a step that leads to s
 abbrev pub counted_at : State → Counts → Counting → Counts

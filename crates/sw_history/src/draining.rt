@@ -2,7 +2,7 @@
 ghost use Rattle.std.specs.Prelude.{◌≡◌, ℕ, IfOk, List, OnErr, length, replicate};
 ghost use Rattle.sw_history.specs.Drained.{IsDrained, IsUnderWay};
 ghost use Rattle.sw_history.specs.Turns.{TurnsLead};
-ghost use Rattle.sw_history.specs.Unanswered.{AreByNode, no_counts};
+ghost use Rattle.sw_history.specs.Unanswered.{AreByNode, AreFew, no_counts};
 ghost use Rattle.sw_history.specs.Way.{CountsMove, MovesPicked};
 ghost use Rattle.sw_machine.specs.Steps.{Step};
 ghost use Rattle.sw_load.specs.Laws.{AreDeclared};
@@ -31,6 +31,7 @@ fn move_picked<R: Routing, A: Arbiter, F: FnMut(usize) -> usize>(
 ) -> Result<bool, AllocError>
     requires pick { (state : F) (count : _) → F.pre state count }
     requires counts { AreByNode net.old.declared unanswered.old }
+    requires few { AreFew net.old.declared unanswered.old }
     ensures network { net.new.declared ≡ net.old.declared }
     ensures moves { IfOk result (λ made. (picked : MovesPicked F.step net.old pick.old made net.new pick.new) × CountsMove net.old unanswered.old picked.index made net.new unanswered.new picked.moved) }
     ensures refused { OnErr result (net.new ≡ net.old) }
@@ -63,6 +64,8 @@ fn send_all<'n, R: Routing, A: Arbiter, F: FnMut(usize) -> usize>(
     ensures turns { (steps : List Step) × (last : F) × TurnsLead senders.now.load F.step net.old pick.old net.new steps last }
 {
     passed.is_deadlock_free();
+    // Names the total, which bounds the counts.
+    let _total = senders.load().total();
     let mut moves: u64 = 0;
     for _ in 0..enough_limit(net.network(), senders.load()) {
         if begin_one(alloc, net, senders, begun, unanswered)? {

@@ -173,8 +173,9 @@ impl<'n, R: Routing, A: Arbiter> History<'n, R, A> {
         requires { 0 < self.old.room }
         ensures { Adds self.old (machine_step step) result self.new }
     {
-        // Names the total, which bounds what a node begins.
+        // Names the total, which bounds what a node begins, and the network, which is valid by its type.
         let _total = self.senders.load().total();
+        let _network = self.net.network();
         let beginner = self.beginner(&step)?;
         let note = self.note(&step, beginner);
         let counting = counting_of(&self.net, &step);

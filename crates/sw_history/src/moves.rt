@@ -1,7 +1,7 @@
 //! The steps other than beginnings.
 ghost use Rattle.std.specs.Prelude.{◌≡◌, ◌<◌, ◌*◌, IfNone, IfOk, IfSome, OnErr, length, true};
 ghost use Rattle.sw_history.specs.Enabled.{CanStepBelow, IsChosen, IsNth};
-ghost use Rattle.sw_history.specs.Unanswered.{AreByNode};
+ghost use Rattle.sw_history.specs.Unanswered.{AreByNode, AreFew};
 ghost use Rattle.sw_history.specs.Way.{CountsMove, MovesOne};
 ghost use Rattle.sw_net.specs.Asked.{IsQuietNet};
 
@@ -64,7 +64,8 @@ pub(crate) fn move_one<R: Routing, A: Arbiter>(
     index: usize,
     unanswered: &mut Unanswered,
 ) -> Result<bool, AllocError>
-    requires { AreByNode net.old.declared unanswered.old }
+    requires counts { AreByNode net.old.declared unanswered.old }
+    requires few { AreFew net.old.declared unanswered.old }
     ensures network { net.new.declared ≡ net.old.declared }
     ensures moves { IfOk result (λ made. (moved : MovesOne net.old index made net.new) × CountsMove net.old unanswered.old index made net.new unanswered.new moved) }
     ensures refused { OnErr result (net.new ≡ net.old) }

@@ -1,6 +1,7 @@
 //! How many commands are unanswered, counted by node.
-ghost use Rattle.std.specs.Prelude.{◌≡◌, ◌<◌, ◌≤◌, ◌*◌, IfOk, IfSome, length, option_map, slice_index};
-ghost use Rattle.sw_history.specs.Unanswered.{AreByNode, IsCounting, IsCountingAtEnd, OwesAt, command_to, commanded, counted_at, has_room, no_counts, within_limit};
+ghost use Rattle.std.specs.Prelude.{◌≡◌, ◌<◌, ◌*◌, IfOk, IfSome, Some, length, option_map};
+ghost use Rattle.sw_config.specs.Limits.{limit_at};
+ghost use Rattle.sw_history.specs.Unanswered.{AreByNode, AreFew, IsCounting, IsCountingAtEnd, IsInside, OwesAt, command_to, commanded, counted_at, has_room, no_counts, within_limit};
 ghost use Rattle.sw_history.specs.Noted.{packet_after};
 ghost use Rattle.sw_load.specs.History.{packet_of};
 ghost use Rattle.sw_machine.specs.State.{State};
@@ -52,6 +53,7 @@ impl Model for Unanswered {
 pub(crate) fn commanded(network: &Network, flow: u16) -> Option<(u16, u32)>
     ensures node { result ≡ commanded network.now flow }
     ensures within { IfSome result (λ p. p.0 < length network.now.nodes) }
+    ensures limit { IfSome result (λ p. limit_at network.now p.0 ≡ Some p.1) }
 {
     if flow >= network.declared_flows() {
         return None;
@@ -70,7 +72,8 @@ pub(crate) fn commanded(network: &Network, flow: u16) -> Option<(u16, u32)>
 /// What is to be counted behind the beginning of a packet of the flow.
 #[inline(always)]
 pub(crate) fn counting_of_flow(network: &Network, flow: u16) -> Counting
-    ensures { result ≡ command_to (commanded network.now flow) }
+    ensures counting { result ≡ command_to (commanded network.now flow) }
+    ensures inside { IsInside network.now result }
 {
     match commanded(network, flow) {
         Some((node, _)) => Counting::Command(node),
@@ -82,7 +85,8 @@ pub(crate) fn counting_of_flow(network: &Network, flow: u16) -> Counting
 #[inline(always)]
 fn counting_at_node<R: Routing, A: Arbiter>(net: &Net<'_, R, A>, node: u16) -> Counting
     requires { node < length net.now.declared.nodes }
-    ensures { OwesAt net.now node result }
+    ensures owes { OwesAt net.now node result }
+    ensures inside { IsInside net.now.declared result }
 {
     match net.network().limit_at(node) {
         Some(_) => Counting::Owes(node, net.owed(node)),
@@ -93,7 +97,8 @@ fn counting_at_node<R: Routing, A: Arbiter>(net: &Net<'_, R, A>, node: u16) -> C
 /// What is to be counted behind the step.
 #[inline(always)]
 pub(crate) fn counting_of<R: Routing, A: Arbiter>(net: &Net<'_, R, A>, step: &Step) -> Counting
-    ensures { IsCounting net.now (machine_step step.now) result }
+    ensures counting { IsCounting net.now (machine_step step.now) result }
+    ensures inside { IsInside net.now.declared result }
 {
     match step {
         Step::Begin { flow, .. } => counting_of_flow(net.network(), *flow),
@@ -111,7 +116,8 @@ pub(crate) fn counting_of<R: Routing, A: Arbiter>(net: &Net<'_, R, A>, step: &St
 /// What is to be counted behind a step of the link end that begins no packet.
 pub(crate) fn counting_at_end<R: Routing, A: Arbiter>(net: &Net<'_, R, A>, end: LinkEnd) -> Counting
     requires { end < 2 * length net.now.declared.links }
-    ensures { IsCountingAtEnd net.now end result }
+    ensures counting { IsCountingAtEnd net.now end result }
+    ensures inside { IsInside net.now.declared result }
 {
     match net.place_of(end) {
         PlaceEnd::Node(node) => counting_at_node(net, node),
@@ -120,8 +126,6 @@ pub(crate) fn counting_at_end<R: Routing, A: Arbiter>(net: &Net<'_, R, A>, end: 
 }
 
 impl Unanswered {
-    ghost use Rattle.sw_history.specs.declared.unanswered.Counting.TheVariants.{Command, Owes};
-
     /// Nothing is unanswered at so many nodes.
     ///
     /// # Errors
@@ -155,8 +159,8 @@ impl Unanswered {
     #[inline(always)]
     pub(crate) fn count<R: Routing, A: Arbiter>(&mut self, net: &Net<'_, R, A>, counting: Counting)
         requires nodes { AreByNode net.now.declared self.old }
-        requires command { (n : _) → counting ≡ Command n → (n < length net.now.declared.nodes) × (slice_index self.old.commands n ≤ 65536) }
-        requires owes { (n before : _) → counting ≡ Owes n before → n < length net.now.declared.nodes }
+        requires few { AreFew net.now.declared self.old }
+        requires inside { IsInside net.now.declared counting }
         ensures { (s : State) → IsNetState net.now s → self.new ≡ counted_at s self.old counting }
     {
         match counting {
