@@ -33,6 +33,7 @@ use Rattle.sw_machine.specs.Packets.{Packet}
 use Rattle.sw_machine.specs.Runs.{CameOut, Run}
 use Rattle.sw_machine.specs.State.{State, empty}
 use Rattle.sw_machine.specs.Steps.{Begin, Emit, Leads, Step, is_begin}
+use Rattle.sw_net.proofs.CellNetwork.{nodes_are}
 
 -- ---- numbers
 
@@ -70,10 +71,6 @@ module _ (d : Declaration) (valid : IsValid d) where
   limit_is : (n : ℕ) → net.limit n ≡ limit_at d n
   unfolding network_of
   limit_is n = refl
-
-  pub nodes_is : net.nodes ≡ length d.nodes
-  unfolding network_of
-  nodes_is = refl
 
   -- ---- which packets are commands
 
@@ -318,7 +315,7 @@ module _ (d : Declaration) (valid : IsValid d) where
             let came : CameOut s n cut.0 = (cut.1, cut.2) in
             let r = are.replies n limit cut.0 has came in
             let on = counted_replies w watched n limit has in
-            let inside : n < net.nodes = subst (λ k. n < k) (sym nodes_is) (limited_within n limit has) in
+            let inside : n < net.nodes = subst (λ k. n < k) (sym (nodes_are d)) (limited_within n limit has) in
             let sum = replies_sent net (are_networks d valid) steps s run step t leads n inside cut.0 now came out in
             let was = r.1 in (
               r.0 + one_sent (s.owed n) (t.owed n),
@@ -345,7 +342,7 @@ module _ (d : Declaration) (valid : IsValid d) where
         room_by None is room limit came has out =
             let n = (net.flow f).to in
             let limited : limit_at d n ≡ Some limit = sym (limit_is n) ∙ has in
-            let inside : n < net.nodes = subst (λ k. n < k) (sym nodes_is) (limited_within n limit limited) in
+            let inside : n < net.nodes = subst (λ k. n < k) (sym (nodes_are d)) (limited_within n limit limited) in
             let before = kept_after_each_step net (are_networks d valid) steps s h.run h.keeps n inside limit came has out in
             let more = one_more steps f cargo end n in
             let none : one_command n it ≡ 0 = ap (λ k. if k then 1 else 0) (none_commanded it packet is n limit limited) in

@@ -5,6 +5,7 @@ pub mod Commands
 mod Idle
 mod Kept
 mod Zero
+mod Alike
 mod Watching
 pub mod Within
 mod CountedOn

@@ -33,6 +33,10 @@ kept_back : (room : Bool) (b : Begun) → (if room then Some b else None) ≡ No
 kept_back true b is = absurd cc
 kept_back false b is = refl
 
+pub passes : (d : Declaration) (c : Counts) (o : Option Begun) (p : Begun) → within_limit d c o ≡ Some p → o ≡ Some p
+passes d c None p is = absurd cc
+passes d c (Some b) p is = ap Some (let_through (has_room d c b.flow) b p is).1
+
 -- behind a history, of which what is unanswered is counted
 module _ (d : Declaration) (valid : IsValid d) (load : List LoadEntry) (all : AreDeclared d load) (total : packet_count load ≤ 65536) (steps : List Step) (s : State) (leads : IsHistory (network_of d) (packets_of load) steps s) (c : Counts) (are : AreCounted d steps s c) where
   abbrev net : Network
