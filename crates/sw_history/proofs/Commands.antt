@@ -154,7 +154,7 @@ module _ (d : Declaration) (valid : IsValid d) where
   abbrev one_command : ℕ → Begun → ℕ
   one_command n b = if is_command_to net n b then 1 else 0
 
-  one_more : (steps : List Step) (f : ℕ) (cargo : List ℕ) (end : End) (n : ℕ)
+  pub one_more : (steps : List Step) (f : ℕ) (cargo : List ℕ) (end : End) (n : ℕ)
       → count_by (is_command_to net n) (beginnings (steps ++ Begin f cargo end ∷ [])) ≡ count_by (is_command_to net n) (beginnings steps) + one_command n (record { flow = f; cargo = cargo; end = end })
   one_more steps f cargo end n =
       let b : Begun = record { flow = f; cargo = cargo; end = end } in

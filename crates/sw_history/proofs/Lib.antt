@@ -5,7 +5,6 @@ pub mod Commands
 mod Idle
 mod Kept
 mod Zero
-mod Alike
 mod Watching
 pub mod Within
 mod CountedOn
@@ -17,6 +16,7 @@ mod Asking
 pub mod Begun
 pub mod Way
 mod Turned
+mod Picked
 pub mod Ends
 pub mod IdleEmpty
 pub mod Steps

@@ -72,6 +72,8 @@ fn send_all<'n, R: Routing, A: Arbiter, F: FnMut(usize) -> usize>(
             continue;
         }
         if !move_picked(alloc, net, pick, unanswered)? {
+            // Names the network's cells, which are sound by its type.
+            let _network = net.network();
             return Ok(moves);
         }
         moves += 1;

@@ -11,7 +11,7 @@ use Rattle.sw_machine.specs.Model.{network_of}
 use Rattle.sw_machine.specs.Owing.{length_pending}
 use Rattle.sw_machine.specs.Runs.{undelivered}
 use Rattle.sw_machine.specs.State.{State}
-use Rattle.sw_net.proofs.CellNetwork.{channels_are, nodes_are}
+use Rattle.sw_cell.proofs.Network.{channels_are, nodes_are}
 use Rattle.sw_net.proofs.Delivered.{channel_is, node_buffered, switch_buffered}
 use Rattle.sw_net.specs.Delivery.{IsInChannel, at_node, in_channel}
 use Rattle.sw_net.specs.Net.{IsNet, IsNetState, NetView}
