@@ -1,5 +1,5 @@
 -- What is unanswered, by the counts of a history.
-use Rattle.std.proofs.Common.{Bool, List, None, Option, Some, [], ap, append-nil, arith, count_by, eq-eqb, false, get_or, is_some, le-ltb, length, length-set, lt-ltb, nat_eq, nat_lt, ne_eqb, refl, subst, sym, true, ℕ, ⊎_elim, ◌+◌, ◌++◌, ◌-◌, ◌<◌, ◌∙◌, ◌∷◌, ◌≡◌, ◌≢◌, ◌≤◌}
+use Rattle.std.proofs.Common.{Bool, List, None, Option, Some, [], ap, arith, count_by, eq-eqb, false, is_some, le-ltb, length, length-set, lt-ltb, nat_lt, ne_eqb, refl, subst, sym, true, ℕ, ⊎_elim, ◌+◌, ◌++◌, ◌-◌, ◌<◌, ◌∙◌, ◌∷◌, ◌≡◌, ◌≤◌}
 use Rattle.std.proofs.Math.Nat.{min-eq_left, min-eq_right}
 use Rattle.std.proofs.lemmas.Bool.{and_from, cases_eq, cases_lt, false≢true}
 use Rattle.std.proofs.lemmas.List.{get_or-set_other, get_or-set_same}
@@ -13,7 +13,7 @@ use Rattle.sw_config.proofs.Limits.{limit_at_least, limited_flow}
 use Rattle.sw_config.specs.Entries.{Declaration, FlowEntry, ReplyEntry, all_flows, is_answering, reply_flows}
 use Rattle.sw_config.specs.Limits.{is_limited, limit_at}
 use Rattle.sw_config.specs.Valid.{IsValid}
-use Rattle.sw_history.specs.Unanswered.{AreByNode, AreCounted, AreFew, AreSent, Counts, IsWatched, command_to, commanded, commanded_by, counted_at, has_room, is_below}
+use Rattle.sw_history.specs.Unanswered.{AreCounted, AreFew, AreSent, Counts, IsWatched, command_to, commanded, commanded_by, counted_at, has_room, is_below}
 use Rattle.sw_history.specs.declared.unanswered.Counting.{Counting}
 use Rattle.sw_history.specs.declared.unanswered.Counting.TheVariants.{Command, Nothing, Owes}
 use Rattle.sw_load.proofs.Fronts.{no-more}
@@ -24,7 +24,7 @@ use Rattle.sw_machine.proofs.DeclaredNetworks.{are_networks}
 use Rattle.sw_machine.proofs.Declares.{declared_are_declared}
 use Rattle.sw_machine.proofs.Flows.{slice_get-append_left}
 use Rattle.sw_machine.proofs.Limits.{beginnings_push, beginnings_stay, kept_after_each_step, one_sent, owes_still, replies_sent, same_count, stays}
-use Rattle.sw_machine.specs.Begun.{Begun, beginning, beginnings}
+use Rattle.sw_machine.specs.Begun.{Begun, beginnings}
 use Rattle.sw_machine.specs.DeclaredPackets.{IsDeclaredPacket}
 use Rattle.sw_machine.specs.Limits.{is_command_at, is_command_to}
 use Rattle.sw_machine.specs.Model.{network_of, reply_number}
@@ -68,7 +68,7 @@ module _ (d : Declaration) (valid : IsValid d) where
   pub limited_within : (n limit : ℕ) → limit_at d n ≡ Some limit → n < length d.nodes
   limited_within n limit is = answering_within d valid n (answers_if (is_answering d n) _ limit is)
 
-  limit_is : (n : ℕ) → net.limit n ≡ limit_at d n
+  pub limit_is : (n : ℕ) → net.limit n ≡ limit_at d n
   unfolding network_of
   limit_is n = refl
 

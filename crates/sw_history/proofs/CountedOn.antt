@@ -1,10 +1,10 @@
 -- The counts of what is unanswered, behind one step more of a history.
-use Rattle.std.proofs.Common.{List, [], refl, subst, sym, ℕ, ◌++◌, ◌∷◌}
+use Rattle.std.proofs.Common.{List, [], refl, subst, sym, ◌++◌, ◌∷◌}
 use Rattle.sw_config.specs.Entries.{Declaration}
 use Rattle.sw_config.specs.Valid.{IsValid}
 use Rattle.sw_history.proofs.Commands.{begun_counted, moved_counted}
 use Rattle.sw_history.proofs.Idle.{next_declared}
-use Rattle.sw_history.specs.Unanswered.{AreCounted, Counts, IsCountingAt, command_to, commanded, counted_at}
+use Rattle.sw_history.specs.Unanswered.{AreCounted, Counts, IsCountingAt, counted_at}
 use Rattle.sw_history.specs.declared.unanswered.Counting.{Counting}
 use Rattle.sw_load.specs.History.{BeginsNext, IsHistory, packets_of}
 use Rattle.sw_load.specs.Laws.{AreDeclared}

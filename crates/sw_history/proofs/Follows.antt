@@ -1,12 +1,11 @@
 -- What may follow a history.
-use Rattle.std.proofs.Common.{◌≡◌, ◌++◌, ◌∷◌, ◌∙◌, [], ℕ, List, Some, false, length, refl, sym, ap, subst}
+use Rattle.std.proofs.Common.{◌≡◌, ◌++◌, ◌∷◌, ◌∙◌, [], ℕ, List, Some, false, length, refl, ap, subst}
 use Rattle.std.specs.Prelude.{slice_get}
 use Rattle.sw_history.specs.Laws.{FollowsWherePossible, OneStateAfter}
 use Rattle.sw_load.proofs.Grown.{begun_at_last, grows, its_own, keeps_last, run_determined, split_last}
 use Rattle.sw_load.specs.History.{BeginsNext, IsHistory, KeepsLimit, packets_at}
 use Rattle.sw_machine.specs.Begun.{Begun, beginnings}
 use Rattle.sw_machine.specs.Network.{Network}
-use Rattle.sw_machine.specs.Runs.{Run}
 use Rattle.sw_machine.specs.State.{State, empty}
 use Rattle.sw_machine.specs.Steps.{Accept, Arrive, Begin, Drop, Emit, Fct, FctIn, Forward, Grant, IsPossible, Leads, Reply, Spill, Step, is_begin}
 

@@ -1,12 +1,12 @@
 -- What a history keeps.
-use Rattle.std.proofs.Common.{◌≡◌, ◌<◌, ◌≤◌, ◌∙◌, [], ℕ, List, None, Option, Some, arith, length, refl, sym, ap}
+use Rattle.std.proofs.Common.{◌≡◌, ◌<◌, ◌≤◌, ◌∙◌, [], ℕ, List, Some, arith, length, refl, sym, ap}
 use Rattle.std.specs.Prelude.{replicate, slice_get}
 use Rattle.std.proofs.lemmas.List.{length-replicate}
 use Rattle.sw_char.specs.declared.nchar.End.{End}
 use Rattle.sw_history.proofs.Follows.{follows_where_possible}
 use Rattle.sw_history.specs.History.{HistoryView, IsKept, IsNext, LeadsTo}
 use Rattle.sw_history.specs.Unanswered.{no_counts}
-use Rattle.sw_load.specs.History.{next_packet, packets_at, packets_of}
+use Rattle.sw_load.specs.History.{next_packet, packets_of}
 use Rattle.sw_load.specs.Laws.{AreDeclared}
 use Rattle.sw_load.specs.Load.{LoadEntry}
 use Rattle.sw_machine.specs.State.{State, empty}

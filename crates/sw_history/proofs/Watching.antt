@@ -1,5 +1,5 @@
 -- What is to be counted behind the steps of a link end.
-use Rattle.std.proofs.Common.{List, None, Option, Some, ap, arith, false, length, refl, subst, sym, ℕ, ◌<◌, ◌∙◌, ◌≡◌, ◌≤◌}
+use Rattle.std.proofs.Common.{None, Some, ap, arith, false, length, subst, sym, ℕ, ◌<◌, ◌∙◌, ◌≡◌, ◌≤◌}
 use Rattle.sw_config.specs.Entries.{Declaration}
 use Rattle.sw_config.specs.Limits.{limit_at}
 use Rattle.sw_config.specs.Valid.{IsValid}
@@ -14,7 +14,7 @@ use Rattle.sw_machine.specs.Network.{AtNode, AtSwitch}
 use Rattle.sw_machine.specs.Parts.{link_end_of}
 use Rattle.sw_machine.specs.State.{State}
 use Rattle.sw_machine.specs.Steps.{Accept, Arrive, Begin, Drop, Emit, Fct, FctIn, Forward, Grant, Reply, Spill, Step, is_begin}
-use Rattle.sw_net.specs.Net.{IsNetState, NetView}
+use Rattle.sw_net.specs.Net.{NetView}
 
 -- at a step that begins no packet
 pub watched_step : (d : Declaration) (s : State) (step : Step) (w : Counting) → is_begin step ≡ false → IsWatched d s step w → IsCountingAt d s step w

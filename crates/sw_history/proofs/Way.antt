@@ -8,18 +8,18 @@ use Rattle.sw_history.proofs.Adds.{begin_counted, none_counted}
 use Rattle.sw_history.proofs.CountedOn.{counted_on}
 use Rattle.sw_history.proofs.Follows.{no_begin_keeps, no_begin_next}
 use Rattle.sw_history.specs.History.{IsCounted}
-use Rattle.sw_history.specs.Next.{MayFollow, begin_of}
+use Rattle.sw_history.specs.Next.{begin_of}
 use Rattle.sw_history.specs.Unanswered.{AreCounted, Counts, command_to, commanded, counted_at}
 use Rattle.sw_history.specs.Way.{HasBegunNext, HasCounted, HasMoved, IsOnTheWay}
 use Rattle.sw_load.proofs.Grown.{grows}
-use Rattle.sw_load.specs.History.{IsHistory, KeepsLimit, next_packet, packets_at, packets_of}
+use Rattle.sw_load.specs.History.{IsHistory, KeepsLimit, next_packet, packets_of}
 use Rattle.sw_load.specs.Laws.{AreDeclared}
 use Rattle.sw_load.specs.Load.{LoadEntry}
 use Rattle.sw_machine.proofs.RunLists.{moves_append, moves_cons}
-use Rattle.sw_machine.specs.Begun.{Begun, beginnings, moves}
+use Rattle.sw_machine.specs.Begun.{Begun, moves}
 use Rattle.sw_machine.specs.Model.{network_of}
 use Rattle.sw_machine.specs.State.{State}
-use Rattle.sw_machine.specs.Steps.{Begin, Step, is_begin}
+use Rattle.sw_machine.specs.Steps.{Step, is_begin}
 use Rattle.sw_net.specs.Net.{IsNetState, NetAnswers, NetView}
 
 pub one_longer : (steps : List Step) (step : Step) (long : ℕ) → length steps ≡ long → length (steps ++ step ∷ []) ≡ long + 1

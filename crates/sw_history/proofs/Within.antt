@@ -17,11 +17,11 @@ use Rattle.sw_load.specs.History.{IsHistory, KeepsLimit, next_packet, packets_at
 use Rattle.sw_load.specs.Laws.{AreDeclared}
 use Rattle.sw_load.specs.Load.{LoadEntry, packet_count}
 use Rattle.sw_load.specs.Senders.{SendersView}
-use Rattle.sw_machine.specs.Begun.{Begun, beginnings}
+use Rattle.sw_machine.specs.Begun.{Begun}
 use Rattle.sw_machine.specs.Model.{network_of}
 use Rattle.sw_machine.specs.Network.{Network}
 use Rattle.sw_machine.specs.State.{State}
-use Rattle.sw_machine.specs.Steps.{Begin, Step}
+use Rattle.sw_machine.specs.Steps.{Step}
 use Rattle.sw_net.specs.Net.{NetView}
 
 -- what is let through is the packet, and it has room

@@ -1,4 +1,4 @@
-use Rattle.std.proofs.Common.{Bor, Some, ap, arith, refl, subst, sym, ◌+◌, ◌<◌, ◌∙◌, ◌≡◌, ◌≤◌}
+use Rattle.std.proofs.Common.{Bor, Some, ap, arith, refl, subst, sym, ◌∙◌, ◌≤◌}
 use Rattle.std.proofs.lemmas.Option.{slice_get-get_or}
 use Rattle.std.specs.Prelude.{slice_get, slice_index}
 use Rattle.sw_config.specs.Entries.{Declaration}

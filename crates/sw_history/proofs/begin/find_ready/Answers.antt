@@ -1,11 +1,11 @@
 use Rattle.std.proofs.Common.{Bor, Some, ap, below_more, false, length, refl, subst, sym, ℕ, ◌<◌, ◌∙◌, ◌≡◌}
 use Rattle.std.proofs.lemmas.Option.{get_or_from_slice_get, slice_get_within}
-use Rattle.std.specs.Prelude.{option_map, slice_get, slice_index}
+use Rattle.std.specs.Prelude.{slice_get, slice_index}
 use Rattle.sw_config.specs.Entries.{Declaration}
 use Rattle.sw_history.proofs.Ready.{below_end, not_ready, read_ready, ready_if}
 use Rattle.sw_history.proofs.begin.find_ready.Goals as goal
 use Rattle.sw_history.specs.Unanswered.{AreByNode}
-use Rattle.sw_history.specs.Way.{IsReady, ready_packet}
+use Rattle.sw_history.specs.Way.{IsReady}
 use Rattle.sw_load.specs.History.{packet_of}
 use Rattle.sw_load.specs.declared.load.LoadPacket.{LoadPacket}
 use Rattle.sw_net.specs.Possible.{TellsBeginning}

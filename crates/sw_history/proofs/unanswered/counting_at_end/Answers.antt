@@ -1,4 +1,3 @@
-use Rattle.std.proofs.Common.{ap, subst, sym, ◌∙◌}
 use Rattle.sw_history.proofs.Watching.{at_node, at_switch}
 use Rattle.sw_history.proofs.unanswered.counting_at_end.Goals as goal
 use Rattle.sw_net.proofs.Told.{start_at_node, start_at_switch}

@@ -5,8 +5,7 @@ use Rattle.sw_config.specs.Valid.{IsValid}
 use Rattle.sw_flow.specs.Places.{ends_of}
 use Rattle.sw_history.proofs.Idle.{begins_told, cannot_begin, from_told, node_begins, none_begins, switch_begins}
 use Rattle.sw_history.proofs.history.History.may_begin_at.Goals as goal
-use Rattle.sw_history.specs.History.{HistoryView, IsKept, IsNext}
-use Rattle.sw_history.specs.Next.{begin_of}
+use Rattle.sw_history.specs.History.{HistoryView, IsKept}
 use Rattle.sw_load.specs.History.{packet_of}
 use Rattle.sw_machine.specs.Begun.{Begun}
 use Rattle.sw_machine.specs.Model.{network_of}
