@@ -1,22 +1,22 @@
 -- Which flows are limited, which nodes have a limit, and which may make others wait.
-use Rattle.std.proofs.Common.{◌≡◌, ℕ, zero, ◌⊎◌, suc, ◌*◌, ◌<◌, ◌≤◌, ◌==◌, ◌&&◌, ◌||◌, Bool, true, false, not, cond, List, [], ◌∷◌, length, map, filter}
-use Rattle.std.proofs.Common.{get_or, All, Option, Some, None, is_some, refl, sym, subst, ap, ◌∙◌, inl, inr, arith, zero-add}
-use Rattle.std.specs.Prelude.{IfSome, slice_get, nat_lt, option_and_then, if◌then◌else◌}
+use Rattle.std.proofs.Common.{◌≡◌, ℕ, zero, ◌⊎◌, suc, ◌*◌, ◌<◌, ◌≤◌, ◌==◌, ◌&&◌, ◌||◌, Bool, true, false, not, cond, List, [], ◌∷◌, length, map, filter, get_or, All, Option, Some, None, is_some, refl, sym, subst, ap, ◌∙◌, inl, inr, arith, zero-add, ◌≢◌, ◌+◌, ◌++◌}
+use Rattle.std.specs.Prelude.{IfSome, slice_get, nat_lt, option_and_then, if◌then◌else◌, min}
 use Rattle.std.specs.List.{list_all, list_any, range_with_len}
 use Rattle.std.specs.Option.{option_map_or}
-use Rattle.std.proofs.Math.Bool.{and-true}
+use Rattle.std.proofs.Math.Bool.{and-true, or-false}
 use Rattle.std.proofs.lemmas.Bool.{and_from, and_parts, and_right, cases_lt, eq-eqb, eqb-true, false_from_ne_true, false≢true, ltb-true, or_cases, or_right}
+use Rattle.std.proofs.Math.Nat.{le-min}
 use Rattle.std.proofs.lemmas.List.{get_or_past}
+use Rattle.std.proofs.lemmas.List.Elements.{All-head, All-tail}
 use Rattle.std.proofs.lemmas.List.Folds.{Any-from_list_any}
 use Rattle.std.proofs.lemmas.List.Sums.{AllPass-from_list_all}
 use Rattle.std.proofs.lemmas.List.FromFn.{get_or-map-range_with_len, length-map-range_with_len}
 use Rattle.std.proofs.lemmas.Option.{same_Some, slice_get_read}
 use Rattle.sw_rmap.specs.Targets.{slots_of}
-use Rattle.sw_config.specs.Entries.{NodeEntry, FlowEntry, Declaration, all_flows, answering_marks, is_answered_at, is_answering, reply_flows, target_of}
-use Rattle.sw_config.specs.Limits.{lesser, sum_of_limits, outstanding_of, flow_outstanding, is_limited, commands_from, limit_from, limit_at, all_limited_at}
-use Rattle.sw_config.specs.Limits.{always_takes, may_make_wait, waiting_marks, HasNoLimits}
-use Rattle.sw_config.specs.LimitRows.{LimitRows, total_at, ends_unanswered, AreLimits}
-use Rattle.sw_config.specs.Valid.{IsFlow, IsValid}
+use Rattle.sw_config.specs.Entries.{NodeEntry, FlowEntry, Declaration, all_flows, answering_marks, is_answered_at, is_answering, reply_flows, target_of, ReplyEntry}
+use Rattle.sw_config.specs.Limits.{lesser, sum_of_limits, outstanding_of, flow_outstanding, is_limited, commands_from, limit_from, limit_at, all_limited_at, always_takes, may_make_wait, waiting_marks, HasNoLimits}
+use Rattle.sw_config.specs.LimitRows.{LimitRows, total_at, ends_unanswered, AreLimits, plus}
+use Rattle.sw_config.specs.Valid.{IsFlow, IsValid, IsNode, IsOutstanding, IsReply}
 use Rattle.sw_config.proofs.AnsweringNodes.{answering_within, declared_at}
 use Rattle.sw_config.proofs.Flows.{All-at}
 use Rattle.sw_config.proofs.FlowLaws.{replies_to}
@@ -92,6 +92,72 @@ module _ (d : Declaration) where
   -- only commands are limited
   pub limited_replied : (f : FlowEntry) → is_limited d.nodes f ≡ true → is_some f.reply ≡ true
   limited_replied f limited = (and_parts (is_some f.reply) (is_some (flow_outstanding f) || is_some (outstanding_of d.nodes f.from)) limited).0
+
+  -- ---- a limit is one command at least
+
+  some_part : (a b : Option ℕ) (l : ℕ) → plus a b ≡ Some l → (k : ℕ) × (a ≡ Some k) × (k ≤ l)
+  some_part None b l is = absurd cc
+  some_part (Some k) None l is = absurd cc
+  some_part (Some k) (Some j) l is = let sum : k + j ≡ l = same_Some (k + j) l is in (k, refl, omega (arith, sum))
+
+  own_at_least : (o : Option ℕ) (k : ℕ) → IfSome o IsOutstanding → o ≡ Some k → 1 ≤ k
+  own_at_least None k some is = absurd cc
+  own_at_least (Some j) k some is = let same : j ≡ k = same_Some j k is in let low = some.low in omega (arith, same, low)
+
+  -- a flow's own limit
+  flow_at_least : (f : FlowEntry) → IsFlow d.nodes f → (k : ℕ) → flow_outstanding f ≡ Some k → 1 ≤ k
+  flow_at_least f flow k is = by f.reply flow.reply is
+    where
+      by : (r : Option ReplyEntry) → IfSome r (IsReply d.nodes f.to) → option_and_then (λ (e : ReplyEntry). e.outstanding) r ≡ Some k → 1 ≤ k
+      by None reply is = absurd cc
+      by (Some e) reply is = own_at_least e.outstanding k reply.outstanding is
+
+  sum_at_least : (test : FlowEntry → Bool) (fs : List FlowEntry) → All (IsFlow d.nodes) fs → (i : ℕ) (f : FlowEntry) (l : ℕ) → sum_of_limits (map flow_outstanding (filter test fs)) ≡ Some l
+      → slice_get fs i ≡ Some f → test f ≡ true → 1 ≤ l
+  sum_at_least test [] flows i f l sum at passes = absurd cc
+  sum_at_least test (g ∷ fs) flows i f l sum at passes =
+      by (λ k rest there. sum_at_least test fs (All-tail (IsFlow d.nodes) g fs flows) k f l rest there passes) (test g) refl i sum at
+    where
+      by : ((k : ℕ) → sum_of_limits (map flow_outstanding (filter test fs)) ≡ Some l → slice_get fs k ≡ Some f → 1 ≤ l) → (b : Bool) → test g ≡ b → (i : ℕ) → sum_of_limits (map flow_outstanding (cond b (g ∷ filter test fs) (filter test fs))) ≡ Some l → slice_get (g ∷ fs) i ≡ Some f → 1 ≤ l
+      by more true is i sum at =
+          let part = some_part (flow_outstanding g) (sum_of_limits (map flow_outstanding (filter test fs))) l (sym (sum_cons (flow_outstanding g) (map flow_outstanding (filter test fs))) ∙ sum) in
+          let one = flow_at_least g (All-head (IsFlow d.nodes) g fs flows) part.0 part.1 in
+          let few = part.2 in
+          omega (arith, one, few)
+      by more false is zero sum at = absurd (false≢true (sym is ∙ ap test (same_Some g f at) ∙ passes))
+      by more false is (suc i) sum at = more i sum at
+
+  lesser_at_least : (a b : Option ℕ) (l : ℕ) → ((k : ℕ) → a ≡ Some k → 1 ≤ k) → ((k : ℕ) → b ≡ Some k → 1 ≤ k) → lesser a b ≡ Some l → 1 ≤ l
+  lesser_at_least None b l first second is = second l is
+  lesser_at_least (Some j) None l first second is = first l is
+  lesser_at_least (Some j) (Some k) l first second is =
+      let same : min j k ≡ l = same_Some (min j k) l is in
+      let low = first j refl in
+      let also = second k refl in
+      subst (λ m. 1 ≤ m) same (le-min low also)
+
+  node_at_least : IsValid d → (m k : ℕ) → outstanding_of d.nodes m ≡ Some k → 1 ≤ k
+  node_at_least valid m k is = by (slice_get d.nodes m) refl is
+    where
+      by : (o : Option NodeEntry) → slice_get d.nodes m ≡ o → option_and_then (λ (e : NodeEntry). e.outstanding) o ≡ Some k → 1 ≤ k
+      by None at is = absurd cc
+      by (Some e) at is = own_at_least e.outstanding k (All-at IsNode d.nodes m e at valid.nodes).outstanding is
+
+  pub limit_at_least : IsValid d → (n l : ℕ) → limit_at d n ≡ Some l → 1 ≤ l
+  limit_at_least valid n l limit =
+      let parts = total_is (is_answering d n) (total_at d n) l limit in
+      let one = Any-from_list_any (is_answered_at n) d.flows parts.0 in
+      let f = one.1 in
+      let at : slice_get d.flows one.0 ≡ Some f = slice_get_read d.flows (length d.flows) one.0 f refl one.2 (sym one.3) in
+      let m = f.from in
+      let s : SplitAt (limit_from d n) (limit_from d n) m 0 (length d.nodes) =
+      split_at (limit_from d n) (limit_from d n) m (λ k other. refl) 0 (length d.nodes) (omega arith) (omega (arith, (All-at (IsFlow d.nodes) d.flows one.0 f at valid.flows).from)) in
+      let part = some_part (limit_from d n m) s.rest l (sym s.before ∙ parts.1) in
+      let few = part.2 in
+      let low : 1 ≤ part.0 = lesser_at_least (outstanding_of d.nodes m) (sum_of_limits (map flow_outstanding (commands_from d m n))) part.0 (node_at_least valid m)
+      (λ k sum. sum_at_least (λ (g : FlowEntry). is_answered_at n g && g.from == m) d.flows valid.flows one.0 f k sum at (and_from (is_answered_at n f) (f.from == m) one.4 (eq-eqb f.from f.from refl)))
+      part.1 in
+      omega (arith, low, few)
 
   -- ---- what ends at a node with a limit
 

@@ -6,16 +6,21 @@ use Rattle.std.specs.Prelude.{slice_get}
 use Rattle.std.proofs.lemmas.Bool.{cases_eq}
 use Rattle.std.proofs.lemmas.Option.{same_Some}
 use Rattle.sw_char.specs.declared.nchar.End.{End}
-use Rattle.sw_history.specs.History.{HistoryView, IsCounted, IsKept, IsNext, with_steps}
+use Rattle.sw_config.specs.Valid.{IsValid}
+use Rattle.sw_history.proofs.CountedOn.{counted_on}
+use Rattle.sw_history.specs.History.{HistoryView, IsCounted, IsKept, IsNext, Keeps, with_steps}
+use Rattle.sw_history.specs.Unanswered.{AreCounted, Counts, IsCounting, counted_at}
+use Rattle.sw_history.specs.declared.unanswered.Counting.{Counting}
 use Rattle.sw_history.specs.Next.{beginner_of}
 use Rattle.sw_load.proofs.Grown.{begun_at_last, grows, its_own, not_its_own}
-use Rattle.sw_load.specs.History.{BeginsNext, packets_at, packets_of}
+use Rattle.sw_load.specs.History.{BeginsNext, IsHistory, KeepsLimit, packets_at, packets_of}
 use Rattle.sw_load.specs.Load.{LoadEntry}
 use Rattle.sw_machine.specs.Begun.{Begun, beginning, beginnings}
 use Rattle.sw_machine.specs.Network.{Network}
+use Rattle.sw_machine.specs.State.{State}
 use Rattle.sw_machine.specs.Steps.{Accept, Arrive, Begin, Drop, Emit, Fct, FctIn, Forward, Grant, Leads, Reply, Spill, Step, is_begin}
 use Rattle.sw_machine.specs.Model.{network_of}
-use Rattle.sw_net.specs.Net.{NetAnswers, NetView}
+use Rattle.sw_net.specs.Net.{IsNetState, NetAnswers, NetView}
 use Rattle.sw_net.proofs.Steps.{get_set_other, get_set_same}
 use Rattle.sw_config.specs.Entries.{Declaration}
 
@@ -91,22 +96,26 @@ module _ (d : Declaration) (steps : List Step) (begun : List ℕ) (counted : IsC
   some_counted (Reply m) n before h at lt = absurd cc
 
 -- a step that the net made goes to the end of the history
-pub add_is_kept : {R A : Type 0} (net after : NetView R A) (load : List LoadEntry) (steps : List Step) (step : Step) (room less : ℕ) (begun more : List ℕ) → after.declared ≡ net.declared
-    → IsKept net (record { declared = net.declared; load = load; steps = steps; room = room }) begun → BeginsNext (network_of net.declared) (packets_of load) steps step
-    → NetAnswers net step (Ok tt) after → length more ≡ length begun → IsCounted net.declared (steps ++ step ∷ []) more
-    → IsKept after (record { declared = after.declared; load = load; steps = steps ++ step ∷ []; room = less }) more
-add_is_kept net after load steps step room less begun more same kept next answers all counted =
+pub add_is_kept : {R A : Type 0} (net after : NetView R A) (load : List LoadEntry) (steps : List Step) (step : Step) (room less : ℕ) (begun more : List ℕ) (counts new_counts : Counts) → IsValid net.declared → after.declared ≡ net.declared
+    → IsKept net (record { declared = net.declared; load = load; steps = steps; room = room }) begun counts → BeginsNext (network_of net.declared) (packets_of load) steps step
+    → ((s : State) → IsHistory (network_of net.declared) (packets_of load) steps s → KeepsLimit (network_of net.declared) steps s step)
+    → NetAnswers net step (Ok tt) after → length more ≡ length begun → IsCounted net.declared (steps ++ step ∷ []) more → (counting : Counting) → IsCounting net step counting → ((s : State) → IsNetState after s → new_counts ≡ counted_at s counts counting)
+    → IsKept after (record { declared = after.declared; load = load; steps = steps ++ step ∷ []; room = less }) more new_counts
+add_is_kept net after load steps step room less begun more counts new_counts valid same kept next keep answers all counted counting is_counting new =
     let t = answers kept.state kept.in_net in
-    let is : IsKept after (record { declared = net.declared; load = load; steps = steps ++ step ∷ []; room = less }) more = record {
+    let is : IsKept after (record { declared = net.declared; load = load; steps = steps ++ step ∷ []; room = less }) more new_counts = record {
       network = same;
       packets = kept.packets;
       all_nodes = all ∙ kept.all_nodes;
       counted = counted;
       state = t.0;
-      leads = grows (network_of net.declared) (packets_of load) steps kept.state kept.leads step t.0 t.1 next;
+      leads = grows (network_of net.declared) (packets_of load) steps kept.state kept.leads step t.0 t.1 next (keep kept.state kept.leads);
       in_net = t.2;
+      unanswered =
+          subst (AreCounted net.declared (steps ++ step ∷ []) t.0) (sym (new t.0 t.2))
+          (counted_on net.declared valid load steps kept.state kept.leads counts kept.unanswered kept.packets step t.0 t.1 next counting (is_counting kept.state kept.in_net));
     } in
-    subst (λ (e : Declaration). IsKept after (record { declared = e; load = load; steps = steps ++ step ∷ []; room = less }) more) (sym same) is
+    subst (λ (e : Declaration). IsKept after (record { declared = e; load = load; steps = steps ++ step ∷ []; room = less }) more new_counts) (sym same) is
 
 -- the list of a vector whose slice was written whole
 pub written : (count : ℕ) (xs new : List ℕ) → length new ≡ length xs → count ≡ length xs → take count (new ++ drop (length new) xs) ≡ new
@@ -119,10 +128,10 @@ written count xs new same all =
 pub last_of_map : {X Y : Type 0} (f : X → Y) (xs ys : List X) (x : X) → ys ≡ xs ++ x ∷ [] → map f ys ≡ map f xs ++ f x ∷ []
 last_of_map f xs ys x e = ap (map f) e ∙ map-append f xs (x ∷ [])
 
-pub made_may_follow : {R A : Type 0} (before after : NetView R A) (h : HistoryView) (begun : List ℕ) (step : Step) → IsKept before h begun → BeginsNext (network_of h.declared) (packets_of h.load) h.steps step → NetAnswers before step (Ok tt) after → IsNext h step
-made_may_follow before after h begun step kept next answers =
+pub made_may_follow : {R A : Type 0} (before after : NetView R A) (h : HistoryView) (begun : List ℕ) (counts : Counts) (step : Step) → IsKept before h begun counts → BeginsNext (network_of h.declared) (packets_of h.load) h.steps step → Keeps h step → NetAnswers before step (Ok tt) after → IsNext h step
+made_may_follow before after h begun counts step kept next keep answers =
     let t = answers kept.state kept.in_net in
-    (t.0, grows (network_of h.declared) (packets_of h.load) h.steps kept.state kept.leads step t.0 (subst (λ (d : Declaration). Leads (network_of d) kept.state step t.0) kept.network t.1) next)
+    (t.0, grows (network_of h.declared) (packets_of h.load) h.steps kept.state kept.leads step t.0 (subst (λ (d : Declaration). Leads (network_of d) kept.state step t.0) kept.network t.1) next (keep kept.state kept.leads))
 
 pub same_view : (h : HistoryView) (d : Declaration) (load : List LoadEntry) (steps : List Step) (room : ℕ) → d ≡ h.declared → load ≡ h.load → (all : List Step) → steps ≡ all → (left : ℕ) → room ≡ left → record { declared = d; load = load; steps = steps; room = room } ≡ with_steps h all left
 same_view h d load steps room e f all s left r = cc

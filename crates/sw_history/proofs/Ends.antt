@@ -3,25 +3,33 @@ use Rattle.std.proofs.Common.{List, Some, [], ap, append-nil, arith, count_by, l
 use Rattle.std.proofs.Math.Nat.{mul-le-mul_left}
 use Rattle.std.proofs.lemmas.Bool.{cases_lt}
 use Rattle.std.proofs.lemmas.List.{nil_from_length}
-use Rattle.std.proofs.lemmas.List.Sums.{sum_by-cons}
+use Rattle.std.proofs.lemmas.List.Sums.{count_by-le-length, sum_by-cons}
 use Rattle.std.specs.Prelude.{slice_get, sum_by}
 use Rattle.sw_net.proofs.CellNetwork.{nodes_are}
 use Rattle.sw_char.specs.declared.nchar.NChar.TheVariants.{Data, Eop}
 use Rattle.sw_history.proofs.Begun.{declared_at}
 use Rattle.sw_history.specs.Drained.{IsDrained, most_moves, most_moves_of}
-use Rattle.sw_history.specs.Way.{IsOnTheWay, NoneIsReady}
+use Rattle.sw_net.proofs.Alike.{same_undelivered}
+use Rattle.sw_history.proofs.Commands.{limit_is, one_more}
+use Rattle.sw_history.proofs.Follows.{follows_where_possible}
+use Rattle.sw_history.proofs.Within.{none_within}
+use Rattle.sw_history.specs.Next.{begin_of}
+use Rattle.sw_history.specs.Unanswered.{Counts, within_limit}
+use Rattle.sw_history.specs.Way.{IsOnTheWay, NoneIsReady, NoneMayBegin}
 use Rattle.sw_load.proofs.Fronts.{histories_end, no-more}
 use Rattle.sw_load.proofs.Grown.{slice_get-behind}
-use Rattle.sw_load.specs.History.{IsWhole, packets_at, packets_of}
+use Rattle.sw_load.specs.History.{BeginsNext, IsWhole, KeepsLimit, next_packet, packets_at, packets_of}
 use Rattle.sw_load.specs.Limit.{enough_limit}
 use Rattle.sw_load.specs.Laws.{AreDeclared}
 use Rattle.sw_machine.proofs.Declares.{declared_are_declared}
-use Rattle.sw_load.specs.Load.{LoadEntry}
+use Rattle.sw_load.specs.Load.{LoadEntry, packet_count}
 use Rattle.sw_machine.proofs.Balance.{count_cons}
 use Rattle.sw_machine.proofs.RunLists.{all_moves}
 use Rattle.sw_machine.specs.Begun.{Begun, RunOf, beginnings, length_with_reply, moves}
-use Rattle.sw_machine.specs.Certificate.{Certificate}
-use Rattle.sw_machine.specs.DeadlockFreedom.{IsDeadlockFree}
+use Rattle.sw_machine.proofs.Limits.{nothing_is_unanswered}
+use Rattle.sw_machine.specs.Certificate.{Certificate, IsAccepted}
+use Rattle.sw_machine.specs.DeadlockFreedom.{IsDeadlockFreeWithinLimits}
+use Rattle.sw_machine.specs.Limits.{is_command_to}
 use Rattle.sw_machine.specs.Network.{form}
 use Rattle.sw_machine.specs.Owing.{length_pending, PendingReply, reply_packet}
 use Rattle.sw_machine.specs.Runs.{total, undelivered}
@@ -31,7 +39,9 @@ use Rattle.sw_machine.proofs.Flows.{some_at}
 use Rattle.sw_machine.proofs.DeclaredNetworks.{are_networks}
 use Rattle.sw_machine.specs.Model.{network_of}
 use Rattle.sw_net.specs.Asked.{IsQuietNet}
-use Rattle.sw_net.specs.Net.{IsNetState, NetView}
+use Rattle.sw_net.specs.Net.{IsNet, IsNetState, NetView}
+use Rattle.sw_route.specs.declared.look.Look.{Look}
+use Rattle.sw_config.proofs.Limits.{limit_at_least}
 use Rattle.sw_config.specs.Valid.{IsValid}
 
 total_zero : (f : ℕ → ℕ) (n c : ℕ) → total n f ≡ 0 → c < n → f c ≡ 0
@@ -61,18 +71,16 @@ beginnings_are (Emit n ∷ steps) = let r = beginnings_are steps in let k = coun
 beginnings_are (Accept n ∷ steps) = let r = beginnings_are steps in let k = count_cons is_begin (Accept n) steps in omega arith
 beginnings_are (Reply n ∷ steps) = let r = beginnings_are steps in let k = count_cons is_begin (Reply n) steps in omega arith
 
-module _ {R A : Type 0} (load : List LoadEntry) (v : NetView R A) (valid : IsValid v.declared) (declared : AreDeclared v.declared load) (cert : Certificate) (free : IsDeadlockFree (network_of v.declared) cert) (begun : List ℕ) (long count : ℕ) (way : IsOnTheWay load v begun long count) where
+module _ {R A : Type 0} (load : List LoadEntry) (v : NetView R A) (valid : IsValid v.declared) (declared : AreDeclared v.declared load) (cert : Certificate) (free : IsDeadlockFreeWithinLimits (network_of v.declared) cert) (begun : List ℕ) (counts : Counts) (steps : List Step) (count : ℕ) (way : IsOnTheWay load v begun counts steps count) where
   -- the loop does not run for ever
-  pub not_over : long ≡ enough_limit (network_of v.declared) (packets_of load) → ⊥
+  pub not_over : length steps ≡ enough_limit (network_of v.declared) (packets_of load) → ⊥
   not_over e =
-      let less = histories_end (network_of v.declared) free.bounded_by_load (packets_of load) way.steps way.state way.history in
-      let l = way.steps_are in
+      let less = histories_end (network_of v.declared) free.bounded_by_load (packets_of load) steps way.state way.history in
       absurd (omega arith)
 
-  few_moves : IsWhole (network_of v.declared) (packets_of load) way.steps → moves way.steps ≤ most_moves (network_of v.declared) (packets_of load)
+  few_moves : IsWhole (network_of v.declared) (packets_of load) steps → moves steps ≤ most_moves (network_of v.declared) (packets_of load)
   few_moves whole =
       let net = network_of v.declared in
-      let steps = way.steps in
       let bound = free.bounded_by_load steps way.state (way.history).run in
       let all = all_moves steps in
       let some = beginnings_are steps in
@@ -80,32 +88,62 @@ module _ {R A : Type 0} (load : List LoadEntry) (v : NetView R A) (valid : IsVal
       let product : net.channels * (14 + 5 * sum_by (length_with_reply net) (beginnings steps)) ≤ net.channels * (14 + 5 * sum_by (length_with_reply net) (packets_of load)) = mul-le-mul_left net.channels (omega arith) in
       omega arith
 
-  module _ (none : NoneIsReady load v begun) (quiet : IsQuietNet v true) where
+  -- where no node is ready, none may begin its next packet
+  pub none_may : packet_count load ≤ 65536 → NoneIsReady load v begun counts → NoneMayBegin load v steps
+  none_may total none n one =
+      let net = network_of v.declared in
+      let ok = are_networks v.declared valid in
+      let b = one.packet in
+      let may = (follows_where_possible net (packets_of load) steps way.state way.history (begin_of b)).0 one.follows in
+      let next : next_packet net (packets_of load) steps n ≡ Some b = ap (next_packet net (packets_of load) steps) (sym one.from) ∙ may.1 in
+      let small = may.0.1.declared.declared in
+      let flows = ok.flows_declared in
+      let from = (ok.flow_ends b.flow (omega arith)).0 in
+      let is_n = one.from in
+      let all = nodes_are v.declared in
+      let long_begun = way.all_nodes in
+      let j = some_at begun n (omega arith) in
+      let done = way.counted n j.0 j.1 in
+      ⊎_elim
+      (λ past. none_within v.declared valid load declared total steps way.state way.history counts way.unanswered n (ap (λ k. within_limit v.declared counts (slice_get (packets_at net n (packets_of load)) k)) (sym done) ∙ past) one)
+      (λ never. never b.flow b.cargo b.end (declared_at v.declared load declared n (length (packets_at net n (beginnings steps))) b next) way.state way.in_net may.0)
+      (none n j.0 j.1)
+
+  module _ (answer : R → ℕ → Look) (ports : A → ℕ) (sound : IsNet answer ports v) (acc : IsAccepted (network_of v.declared) cert) (none : NoneMayBegin load v steps) (quiet : IsQuietNet v true) where
+    state_is_empty : undelivered (network_of v.declared) way.state ≡ 0
+    state_is_empty = free.quiet_is_empty way.state (steps, (way.history).run, (way.history).keeps) (quiet way.state way.in_net)
+
     pub is_empty : (s : State) → IsNetState v s → undelivered (network_of v.declared) s ≡ 0
-    is_empty s k = free.quiet_is_empty s k.reached (quiet s k)
+    is_empty s k = same_undelivered answer ports v sound s way.state k way.in_net ∙ state_is_empty
+
+    -- where nothing is unanswered, the next packet is within the limit
+    keeps_next : (b : Begun) → ((network_of v.declared).flow b.flow).to < (network_of v.declared).nodes → KeepsLimit (network_of v.declared) steps way.state (begin_of b)
+    keeps_next b lt limit came has out =
+        let net = network_of v.declared in
+        let n = (net.flow b.flow).to in
+        let zero_is = nothing_is_unanswered net cert (are_networks v.declared valid) acc steps way.state (way.history).run state_is_empty n lt came out in
+        let least = limit_at_least v.declared valid n limit (sym (limit_is v.declared valid n) ∙ has) in
+        let more = one_more v.declared valid steps b.flow b.cargo b.end n in
+        let few = count_by-le-length (is_command_to net n) (b ∷ []) in
+        let one = count_cons (is_command_to net n) b [] in
+        omega arith
 
     -- a packet that is left could be begun
-    none_left : (n k : ℕ) (b : Begun) → k ≡ length (packets_at (network_of v.declared) n (beginnings way.steps)) → slice_get (packets_at (network_of v.declared) n (packets_of load)) k ≡ Some b → ⊥
-    none_left n k b done at =
+    none_left : (n : ℕ) (b : Begun) → next_packet (network_of v.declared) (packets_of load) steps n ≡ Some b → ⊥
+    none_left n b at =
         let net = network_of v.declared in
         let ok = are_networks v.declared valid in
         let s = way.state in
-        let here = declared_at v.declared load declared n k b at in
+        let here = declared_at v.declared load declared n (length (packets_at net n (beginnings steps))) b at in
         let packet = (declared_are_declared v.declared b.flow b.cargo).0 here.packet in
         let small = packet.declared in
         let flows = ok.flows_declared in
-        let from = (ok.flow_ends b.flow (omega arith)).0 in
-        let is_n = here.from in
-        let all = nodes_are v.declared in
-        let long_begun = way.all_nodes in
-        let j = some_at begun n (omega arith) in
-        let counted = way.counted n j.0 j.1 in
-        let same : j.0 ≡ k = counted ∙ sym done in
-        let zero_is = is_empty s way.in_net in
+        let ends = ok.flow_ends b.flow (omega arith) in
+        let zero_is = state_is_empty in
         let m = (net.flow b.flow).from in
-        let idle = total_zero (λ i. length (s.to_send i) + length_pending (s.pending i)) net.nodes m (omega arith) from in
+        let idle = total_zero (λ i. length (s.to_send i) + length_pending (s.pending i)) net.nodes m (omega arith) ends.0 in
         let t = after_begin s m (form net b.flow 0 b.cargo b.end) in
-        let possible : IsPossible net s (Begin b.flow b.cargo b.end) = (
+        let possible : IsPossible net s (begin_of b) = (
           t,
           record {
             declared = packet;
@@ -114,26 +152,24 @@ module _ {R A : Type 0} (load : List LoadEntry) (v : NetView R A) (valid : IsVal
             after = refl;
           },
         ) in
-        ⊎_elim
-        (λ past. let e = sym at ∙ ap (slice_get (packets_at net n (packets_of load))) (sym same) ∙ past in absurd cc)
-        (λ never. never b.flow b.cargo b.end here s way.in_net possible)
-        (none n j.0 j.1)
+        let next : BeginsNext net (packets_of load) steps (begin_of b) = ap (next_packet net (packets_of load) steps) here.from ∙ at in
+        none n (record { packet = b; from = here.from; follows = (follows_where_possible net (packets_of load) steps s way.history (begin_of b)).1 (possible, next, keeps_next b ends.1) })
 
-    whole_by : (n : ℕ) (rest : List Begun) → packets_at (network_of v.declared) n (packets_of load) ≡ packets_at (network_of v.declared) n (beginnings way.steps) ++ rest → packets_at (network_of v.declared) n (beginnings way.steps) ≡ packets_at (network_of v.declared) n (packets_of load)
-    whole_by n [] e = sym (e ∙ append-nil (packets_at (network_of v.declared) n (beginnings way.steps)))
+    whole_by : (n : ℕ) (rest : List Begun) → packets_at (network_of v.declared) n (packets_of load) ≡ packets_at (network_of v.declared) n (beginnings steps) ++ rest → packets_at (network_of v.declared) n (beginnings steps) ≡ packets_at (network_of v.declared) n (packets_of load)
+    whole_by n [] e = sym (e ∙ append-nil (packets_at (network_of v.declared) n (beginnings steps)))
     whole_by n (b ∷ rest) e =
-        let xs = packets_at (network_of v.declared) n (beginnings way.steps) in
-        absurd (none_left n (length xs) b refl (ap (λ l. slice_get l (length xs)) e ∙ slice_get-behind xs (b ∷ rest)))
+        let xs = packets_at (network_of v.declared) n (beginnings steps) in
+        absurd (none_left n b (ap (λ l. slice_get l (length xs)) e ∙ slice_get-behind xs (b ∷ rest)))
 
-    all_begun : IsWhole (network_of v.declared) (packets_of load) way.steps
+    all_begun : IsWhole (network_of v.declared) (packets_of load) steps
     all_begun n = let front = (way.history).in_order n in whole_by n front.0 front.1
 
-    begins : (begun : List Begun) × RunOf (network_of v.declared) (empty (network_of v.declared)) way.steps begun way.state
-    begins = free.each_run_is_counted way.steps way.state (way.history).run
+    begins : (begun : List Begun) × RunOf (network_of v.declared) (empty (network_of v.declared)) steps begun way.state
+    begins = free.each_run_is_counted steps way.state (way.history).run
 
     pub is_drained : IsDrained load v count
     is_drained = record {
-      steps = way.steps;
+      steps = steps;
       state = way.state;
       history = way.history;
       in_net = way.in_net;
@@ -143,5 +179,5 @@ module _ {R A : Type 0} (load : List LoadEntry) (v : NetView R A) (valid : IsVal
       few = subst (λ k. k ≤ most_moves (network_of v.declared) (packets_of load)) way.moves_are (few_moves all_begun);
       begun = begins.0;
       begins = begins.1;
-      few_of_begun = subst (λ k. k ≤ most_moves_of (network_of v.declared) begins.0) way.moves_are (free.bounded way.steps begins.0 way.state begins.1);
+      few_of_begun = subst (λ k. k ≤ most_moves_of (network_of v.declared) begins.0) way.moves_are (free.bounded steps begins.0 way.state begins.1);
     }

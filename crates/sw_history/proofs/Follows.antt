@@ -1,27 +1,13 @@
 -- What may follow a history.
-use Rattle.std.proofs.Common.{◌≡◌, ◌++◌, ◌∷◌, ◌∙◌, [], ℕ, List, Some, false, length, refl, sym, ap, subst}
+use Rattle.std.proofs.Common.{◌≡◌, ◌++◌, ◌∷◌, ◌∙◌, [], ℕ, List, Some, false, length, refl, ap, subst}
 use Rattle.std.specs.Prelude.{slice_get}
 use Rattle.sw_history.specs.Laws.{FollowsWherePossible, OneStateAfter}
-use Rattle.sw_load.proofs.Grown.{begun_at_last, grows, its_own}
-use Rattle.sw_load.specs.History.{BeginsNext, IsHistory, packets_at}
-use Rattle.sw_machine.proofs.Determined.{determined}
+use Rattle.sw_load.proofs.Grown.{begun_at_last, grows, its_own, keeps_last, run_determined, split_last}
+use Rattle.sw_load.specs.History.{BeginsNext, IsHistory, KeepsLimit, packets_at}
 use Rattle.sw_machine.specs.Begun.{Begun, beginnings}
 use Rattle.sw_machine.specs.Network.{Network}
-use Rattle.sw_machine.specs.Runs.{Run}
 use Rattle.sw_machine.specs.State.{State, empty}
 use Rattle.sw_machine.specs.Steps.{Accept, Arrive, Begin, Drop, Emit, Fct, FctIn, Forward, Grant, IsPossible, Leads, Reply, Spill, Step, is_begin}
-
-run_determined : (net : Network) (steps : List Step) (s t u : State) → Run net s steps t → Run net s steps u → u ≡ t
-run_determined net [] s t u r q = q ∙ sym r
-run_determined net (step ∷ steps) s t u r q =
-    let same = determined net s step q.0 r.0 q.1 r.1 in
-    run_determined net steps r.0 t u r.2 (subst (λ m. Run net m steps u) same q.2)
-
-pub split_last : (net : Network) (steps : List Step) (step : Step) (s t : State) → Run net s (steps ++ step ∷ []) t → (m : State) × Run net s steps m × Leads net m step t
-split_last net [] step s t r = (s, refl, subst (λ m. Leads net s step m) (sym r.2) r.1)
-split_last net (first ∷ steps) step s t r =
-    let later = split_last net steps step r.0 t r.2 in
-    (later.0, (r.0, r.1, later.1), later.2)
 
 pub one_state_after : OneStateAfter
 one_state_after net packets steps s t h k = run_determined net steps (empty net) s t h.run k.run
@@ -60,10 +46,16 @@ module _ (net : Network) (packets : List Begun) where
         let same = run_determined net steps (empty net) s last.0 h.run last.1 in
         (t, subst (λ m. Leads net m step t) same last.2)
 
+    keeps_of : (step : Step) (t : State) → IsHistory net packets (steps ++ step ∷ []) t → KeepsLimit net steps s step
+    keeps_of step t k =
+        let last = split_last net steps step (empty net) t k.run in
+        let same = run_determined net steps (empty net) s last.0 h.run last.1 in
+        keeps_last net steps s step t k.run (subst (λ m. Leads net m step t) same last.2) k.keeps
+
 pub follows_where_possible : FollowsWherePossible
 follows_where_possible net packets steps s h step = (
-  λ may. (possible_of net packets steps s h step may.0 may.1, next_of net packets steps s h step may.0 may.1),
-  λ is. (is.0.0, grows net packets steps s h step is.0.0 is.0.1 is.1),
+  λ may. (possible_of net packets steps s h step may.0 may.1, next_of net packets steps s h step may.0 may.1, keeps_of net packets steps s h step may.0 may.1),
+  λ is. (is.0.0, grows net packets steps s h step is.0.0 is.0.1 is.1 is.2),
 )
 
 -- a step that begins no packet asks for nothing of the packets
@@ -79,3 +71,17 @@ no_begin_next net packets steps (Spill c) h = tt
 no_begin_next net packets steps (Emit m) h = tt
 no_begin_next net packets steps (Accept m) h = tt
 no_begin_next net packets steps (Reply m) h = tt
+
+-- nor of the limit on unanswered commands
+pub no_begin_keeps : (net : Network) (steps : List Step) (s : State) (step : Step) → is_begin step ≡ false → KeepsLimit net steps s step
+no_begin_keeps net steps s (Begin f cargo end) h = absurd cc
+no_begin_keeps net steps s (Fct c) h = tt
+no_begin_keeps net steps s (FctIn c) h = tt
+no_begin_keeps net steps s (Arrive c) h = tt
+no_begin_keeps net steps s (Grant e c) h = tt
+no_begin_keeps net steps s (Drop c) h = tt
+no_begin_keeps net steps s (Forward c) h = tt
+no_begin_keeps net steps s (Spill c) h = tt
+no_begin_keeps net steps s (Emit m) h = tt
+no_begin_keeps net steps s (Accept m) h = tt
+no_begin_keeps net steps s (Reply m) h = tt

@@ -7,10 +7,11 @@ use Rattle.std.proofs.lemmas.List.Concat.{flat_map-cons}
 use Rattle.std.proofs.lemmas.Option.{get_or_from_slice_get, slice_get_within}
 use Rattle.sw_net.specs.Makes.{IsDeclaredAt}
 use Rattle.sw_net.specs.CellPossible.{CanStepAt}
-use Rattle.sw_history.proofs.Follows.{follows_where_possible, no_begin_next}
-use Rattle.sw_history.specs.History.{HistoryView, IsKept, IsNext, IsNextAt}
+use Rattle.sw_history.proofs.Follows.{follows_where_possible, no_begin_keeps, no_begin_next}
+use Rattle.sw_history.specs.History.{HistoryView, IsKept, IsNext, IsNextAt, Keeps}
 use Rattle.sw_history.specs.Next.{BeginsOne, begin_of, IsIdle}
-use Rattle.sw_load.specs.History.{BeginsNext, next_packet, packet_of, packets_at, packets_of}
+use Rattle.sw_history.specs.Unanswered.{Counts}
+use Rattle.sw_load.specs.History.{BeginsNext, KeepsLimit, next_packet, packet_of, packets_at, packets_of}
 use Rattle.sw_load.specs.Laws.{AreDeclared}
 use Rattle.sw_load.specs.Load.{LoadEntry}
 use Rattle.sw_machine.specs.DeclaredPackets.{IsDeclaredPacket}
@@ -60,6 +61,11 @@ module _ (d : Declaration) (load : List LoadEntry) (steps : List Step) (n : ℕ)
   pub next_declared : AreDeclared d load → IsDeclaredPacket d b.flow b.cargo
   next_declared all = at_place (Declared d) (packets_at (network_of d) n (packets_of load)) before b (All-filter (λ b. nat_eq ((network_of d).flow b.flow).from n) (Declared d) (packets_of load) (all_declared d load all)) next
 
+pub from_told : (d : Declaration) (load : List LoadEntry) (steps : List Step) (n : ℕ) {X : Type 0} (f : X → Begun) (o : Option X) → IfSome o (λ x. next_packet (network_of d) (packets_of load) steps n ≡ Some (f x))
+    → IfSome o (λ x. ((network_of d).flow (f x).flow).from ≡ n)
+from_told d load steps n f None is = tt
+from_told d load steps n f (Some x) is = next_from d load steps n (f x) is
+
 some_of : {A : Type 0} (o : Option A) → is_some o ≡ true → (x : A) × (o ≡ Some x)
 some_of None h = absurd (false≢true h)
 some_of (Some x) h = (x, refl)
@@ -75,16 +81,16 @@ none_mapped f P (Some x) m e none = tt
 
 -- ---- what may follow
 
-module _ {R A : Type 0} (v : NetView R A) (h : HistoryView) (begun : List ℕ) (kept : IsKept v h begun) where
+module _ {R A : Type 0} (v : NetView R A) (h : HistoryView) (begun : List ℕ) {counts : Counts} (kept : IsKept v h begun counts) where
   abbrev net : Network
   net = network_of h.declared
 
-  abbrev follows : (step : Step) → IsNext h step ↔ (IsPossible net kept.state step × BeginsNext net (packets_of h.load) h.steps step)
+  abbrev follows : (step : Step) → IsNext h step ↔ (IsPossible net kept.state step × BeginsNext net (packets_of h.load) h.steps step × KeepsLimit net h.steps kept.state step)
   follows step = follows_where_possible net (packets_of h.load) h.steps kept.state kept.leads step
 
-  pub tells_next : (step : Step) (told : Bool) → Tells v step told → BeginsNext net (packets_of h.load) h.steps step → (IsTrue told ↔ IsNext h step)
-  tells_next step true tells next = (λ t. (follows step).1 (subst (λ (d : Declaration). IsPossible (network_of d) kept.state step) kept.network (tells kept.state kept.in_net), next), λ may. refl)
-  tells_next step false tells next = (λ t. absurd (false≢true t), λ may. absurd (tells kept.state kept.in_net (subst (λ (d : Declaration). IsPossible (network_of d) kept.state step) (sym kept.network) ((follows step).0 may).0)))
+  pub tells_next : (step : Step) (told : Bool) → Tells v step told → BeginsNext net (packets_of h.load) h.steps step → Keeps h step → (IsTrue told ↔ IsNext h step)
+  tells_next step true tells next keep = (λ t. (follows step).1 (subst (λ (d : Declaration). IsPossible (network_of d) kept.state step) kept.network (tells kept.state kept.in_net), next, keep kept.state kept.leads), λ may. refl)
+  tells_next step false tells next keep = (λ t. absurd (false≢true t), λ may. absurd (tells kept.state kept.in_net (subst (λ (d : Declaration). IsPossible (network_of d) kept.state step) (sym kept.network) ((follows step).0 may).0)))
 
   -- ---- the beginning of a node's next packet
 
@@ -103,11 +109,17 @@ module _ {R A : Type 0} (v : NetView R A) (h : HistoryView) (begun : List ℕ) (
     begins_next : (b : Begun) → next ≡ Some b → BeginsNext net (packets_of h.load) h.steps (Begin b.flow b.cargo b.end)
     begins_next b is = ap (next_packet net (packets_of h.load) h.steps) (next_from h.declared h.load h.steps n b is) ∙ is
 
-    pub begins_packet : TellsBeginning v n true → (b : Begun) → next ≡ Some b → IsNext h (begin_of b)
-    begins_packet tells b is = (tells_next (begin_of b) true (tells_packet true tells b is) (begins_next b is)).0 refl
+    pub begins_packet : TellsBeginning v n true → (b : Begun) → next ≡ Some b → Keeps h (begin_of b) → IsNext h (begin_of b)
+    begins_packet tells b is keep = (tells_next (begin_of b) true (tells_packet true tells b is) (begins_next b is) keep).0 refl
+
+    pub begins_told : TellsBeginning v n true → {X : Type 0} (f : X → Begun) (o : Option X) → IfSome o (λ x. next ≡ Some (f x)) → IfSome o (λ x. Keeps h (begin_of (f x))) → IfSome o (λ x. IsNext h (begin_of (f x)))
+    begins_told tells f None is keep = tt
+    begins_told tells f (Some x) is keep = begins_packet tells (f x) is keep
 
     pub cannot_begin : TellsBeginning v n false → BeginsOne net (packets_of h.load) h.steps n → ⊥
-    cannot_begin tells one = let b = one.packet in false≢true ((tells_next (begin_of b) false (tells_packet false tells b (one_next one)) (begins_next b (one_next one))).1 one.follows)
+    cannot_begin tells one =
+        let b = one.packet in
+        tells_packet false tells b (one_next one) kept.state kept.in_net (subst (λ (d : Declaration). IsPossible (network_of d) kept.state (begin_of b)) (sym kept.network) ((follows (begin_of b)).0 one.follows).0)
 
     pub begun_all : next ≡ None → BeginsOne net (packets_of h.load) h.steps n → ⊥
     begun_all none one = let some = one_next one in let bad : ⊥ = cc in bad
@@ -116,7 +128,7 @@ module _ {R A : Type 0} (v : NetView R A) (h : HistoryView) (begun : List ℕ) (
   pub next_move : (e : ℕ) (step : Step) → IsMoveOf v e step → Tells v step true → IsNextAt h e step
   next_move e step move tells = record {
     belongs = subst (λ (d : Declaration). link_end_of (network_of d) step ≡ e) kept.network move.belongs;
-    next = (tells_next step true tells (no_begin_next net (packets_of h.load) h.steps step move.no_begin)).0 refl;
+    next = (tells_next step true tells (no_begin_next net (packets_of h.load) h.steps step move.no_begin) (λ s leads. no_begin_keeps net h.steps s step move.no_begin)).0 refl;
   }
 
   -- ---- link ends
@@ -130,7 +142,7 @@ module _ {R A : Type 0} (v : NetView R A) (h : HistoryView) (begun : List ℕ) (
   pub not_idle : (e : ℕ) → CanStep v e true → IsIdle net (packets_of h.load) h.steps e → ⊥
   not_idle e can idle =
       let at = can_step e can in
-      idle at.step at.belongs ((follows at.step).1 (at.possible, no_begin_next net (packets_of h.load) h.steps at.step at.no_begin))
+      idle at.step at.belongs ((follows at.step).1 (at.possible, no_begin_next net (packets_of h.load) h.steps at.step at.no_begin, no_begin_keeps net h.steps kept.state at.step at.no_begin))
 
   moves : (e : ℕ) → CanStep v e false → (step : Step) → is_begin step ≡ false → link_end_of net step ≡ e → IsNext h step → ⊥
   moves e none step no_begin belongs may = cannot_step e none (record { step = step; belongs = belongs; no_begin = no_begin; possible = ((follows step).0 may).0 })

@@ -1,11 +1,12 @@
 -- What a history keeps.
-use Rattle.std.proofs.Common.{◌≡◌, ◌<◌, ◌≤◌, ◌∙◌, [], ℕ, List, None, Option, Some, arith, length, refl, sym, ap}
+use Rattle.std.proofs.Common.{◌≡◌, ◌<◌, ◌≤◌, ◌∙◌, [], ℕ, List, Some, arith, length, refl, sym, ap}
 use Rattle.std.specs.Prelude.{replicate, slice_get}
 use Rattle.std.proofs.lemmas.List.{length-replicate}
 use Rattle.sw_char.specs.declared.nchar.End.{End}
 use Rattle.sw_history.proofs.Follows.{follows_where_possible}
 use Rattle.sw_history.specs.History.{HistoryView, IsKept, IsNext, LeadsTo}
-use Rattle.sw_load.specs.History.{next_packet, packets_at, packets_of}
+use Rattle.sw_history.specs.Unanswered.{no_counts}
+use Rattle.sw_load.specs.History.{next_packet, packets_of}
 use Rattle.sw_load.specs.Laws.{AreDeclared}
 use Rattle.sw_load.specs.Load.{LoadEntry}
 use Rattle.sw_machine.specs.State.{State, empty}
@@ -14,18 +15,19 @@ use Rattle.sw_machine.specs.Model.{network_of}
 use Rattle.sw_net.specs.Net.{IsNetState, NetView}
 use Rattle.sw_load.proofs.Sends.{flow_from}
 use Rattle.sw_config.specs.Entries.{Declaration, FlowEntry, all_flows}
-use Rattle.sw_history.proofs.Loop.{all_zero}
+use Rattle.sw_history.proofs.Zero.{all_zero, new_history, none_counted}
 
 pub new_is_kept : {R A : Type 0} (net : NetView R A) (load : List LoadEntry) (room nodes : ℕ) → IsNetState net (empty (network_of net.declared)) → AreDeclared net.declared load → nodes ≡ length net.declared.nodes
-    → IsKept net (record { declared = net.declared; load = load; steps = []; room = room }) (replicate nodes 0)
+    → IsKept net (record { declared = net.declared; load = load; steps = []; room = room }) (replicate nodes 0) (no_counts nodes)
 new_is_kept net load room nodes state packets all = record {
   network = refl;
   packets = packets;
   all_nodes = length-replicate nodes 0 ∙ all;
   counted = λ n count h. all_zero nodes n count h;
   state = empty (network_of net.declared);
-  leads = record { run = refl; in_order = λ n. (packets_at (network_of net.declared) n (packets_of load), refl) };
+  leads = new_history net.declared load;
   in_net = state;
+  unanswered = none_counted net.declared nodes all;
 }
 
 declared_flow : (d : Declaration) (flow : ℕ) → flow < (network_of d).declared_flows → flow < length d.flows
@@ -54,7 +56,3 @@ undeclared h s leads d flow count cargo end same is large next =
     let small = (next_begins h s leads flow cargo end next).0 in
     let all = ap (λ (k : Declaration). length k.flows) same in
     absurd (omega arith)
-
-pub none_or_some : {A : Type 0} (o : Option A) (x : A) → None ≡ o → o ≡ Some x → ⊥
-none_or_some None x e h = absurd cc
-none_or_some (Some y) x e h = absurd cc

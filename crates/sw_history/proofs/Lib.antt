@@ -1,8 +1,13 @@
 pub mod Follows
 pub mod Adds
 mod Counts
+pub mod Commands
 mod Idle
 mod Kept
+mod Zero
+mod Watching
+pub mod Within
+mod CountedOn
 pub mod Ready
 mod Refused
 mod Whole
@@ -11,6 +16,7 @@ mod Asking
 pub mod Begun
 pub mod Way
 mod Turned
+mod Picked
 pub mod Ends
 pub mod IdleEmpty
 pub mod Steps

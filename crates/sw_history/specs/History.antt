@@ -1,9 +1,10 @@
 -- A history as callers see it.
 use Rattle.std.specs.Prelude.{Err, List, Ok, Result, [], length, slice_get, Some, ℕ, ◌++◌, ◌-◌, ◌∷◌, ◌≡◌}
 use Rattle.sw_history.specs.Next.{MayFollow}
+use Rattle.sw_history.specs.Unanswered.{AreCounted, Counts}
 use Rattle.sw_history.specs.declared.fault.StepFault.{StepFault}
 use Rattle.sw_history.specs.declared.fault.StepFault.TheVariants.{Memory, NotEnabled}
-use Rattle.sw_load.specs.History.{IsHistory, packets_at, packets_of}
+use Rattle.sw_load.specs.History.{IsHistory, KeepsLimit, packets_at, packets_of}
 use Rattle.sw_load.specs.Laws.{AreDeclared}
 use Rattle.sw_load.specs.Load.{LoadEntry}
 use Rattle.sw_machine.specs.Begun.{beginnings}
@@ -53,12 +54,16 @@ Adds h step (Ok done) k = IsNext h step × (k ≡ with_steps h (h.steps ++ step 
 Adds h step (Err NotEnabled) k = (IsNext h step → ⊥) × (k ≡ h)
 Adds h step (Err Memory) k = IsNext h step × (k ≡ h)
 
+-- where the step begins a packet, the limit on unanswered commands is kept
+abbrev pub Keeps : HistoryView → Step → Type 0
+Keeps h step = (s : State) → LeadsTo h s → KeepsLimit (network_of h.declared) h.steps s step
+
 -- begun tells by node how many packets it has begun
 abbrev pub IsCounted : Declaration → List Step → List ℕ → Type 0
 IsCounted d steps begun = (n count : ℕ) → slice_get begun n ≡ Some count → count ≡ length (packets_at (network_of d) n (beginnings steps))
 
--- the net is in the state after the steps, which are a history of the load
-pub record IsKept {R A : Type 0} (net : NetView R A) (h : HistoryView) (begun : List ℕ) : Type 0 where
+-- the net is in the state after the steps, which are a history of the load; packets begun and commands unanswered are counted
+pub record IsKept {R A : Type 0} (net : NetView R A) (h : HistoryView) (begun : List ℕ) (counts : Counts) : Type 0 where
   pub network : net.declared ≡ h.declared
   pub packets : AreDeclared h.declared h.load
   pub all_nodes : length begun ≡ length h.declared.nodes
@@ -66,3 +71,4 @@ pub record IsKept {R A : Type 0} (net : NetView R A) (h : HistoryView) (begun : 
   pub state : State
   pub leads : LeadsTo h state
   pub in_net : IsNetState net state
+  pub unanswered : AreCounted h.declared h.steps state counts

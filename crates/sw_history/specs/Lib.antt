@@ -1,6 +1,7 @@
 pub mod Next
 pub mod Laws
 pub mod History
+pub mod Unanswered
 pub mod Makes
 pub mod Noted
 pub mod Asking

@@ -111,6 +111,7 @@ impl<'n, R: Routing + Drop, A: Arbiter + Drop> History<'n, R, A> {
             senders,
             notes,
             begun: _,
+            unanswered: _,
         } = self;
         net.discard();
         Record { senders, notes }

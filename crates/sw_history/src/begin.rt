@@ -1,5 +1,6 @@
 //! The nodes begin their packets.
 ghost use Rattle.std.specs.Prelude.{◌≡◌, ◌<◌, IfNone, IfOk, IfSome, Ok, OnErr, OnOk, length, slice_index, true};
+ghost use Rattle.sw_history.specs.Unanswered.{AreByNode, AreFew};
 ghost use Rattle.sw_history.specs.Way.{BeginsOne, IsReady, NoneIsReady};
 ghost use Rattle.sw_load.specs.Laws.{AreDeclared};
 ghost use Rattle.sw_machine.specs.Steps.{Begin};
@@ -7,6 +8,7 @@ ghost use Rattle.sw_net.specs.Net.{NetAnswers};
 ghost use Rattle.sw_net.specs.Possible.{Tells};
 
 use crate::record::beginning;
+use crate::unanswered::{Unanswered, counting_of_flow, within_limit};
 use std::alloc::{AllocError, Global};
 use sw_arb::Arbiter;
 use sw_load::{LoadPacket, Senders};
@@ -18,19 +20,22 @@ fn find_ready<R: Routing, A: Arbiter>(
     net: &Net<'_, R, A>,
     senders: &Senders<'_>,
     begun: &[u32],
+    unanswered: &Unanswered,
 ) -> Option<u16>
     requires packets { AreDeclared net.now.declared senders.now.load }
     requires network { senders.now.declared ≡ net.now.declared }
     requires nodes { length begun.now ≡ length net.now.declared.nodes }
+    requires counts { AreByNode net.now.declared unanswered.now }
     ensures within { IfSome result (λ n. n < length begun.now) }
-    ensures ready { IfSome result (λ n. IsReady senders.now.load net.now n (slice_index begun.now n) true) }
-    ensures none { IfNone result (NoneIsReady senders.now.load net.now begun.now) }
+    ensures ready { IfSome result (λ n. IsReady senders.now.load net.now unanswered.now n (slice_index begun.now n) true) }
+    ensures none { IfNone result (NoneIsReady senders.now.load net.now begun.now unanswered.now) }
 {
-    for node in 0..net.network().nodes() {
+    let network = net.network();
+    for node in 0..network.nodes() {
         if !net.can_begin(node) {
             continue;
         }
-        if senders.packet(node, begun[node as usize]).is_some() {
+        if within_limit(network, senders, unanswered, node, begun[node as usize]).is_some() {
             return Some(node);
         }
     }
@@ -69,24 +74,35 @@ pub(crate) fn begin_one<R: Routing, A: Arbiter>(
     net: &mut Net<'_, R, A>,
     senders: &Senders<'_>,
     begun: &mut [u32],
+    unanswered: &mut Unanswered,
 ) -> Result<bool, AllocError>
     requires packets { AreDeclared net.old.declared senders.now.load }
     requires network { senders.now.declared ≡ net.old.declared }
     requires nodes { length begun.old ≡ length net.old.declared.nodes }
+    requires counts { AreByNode net.old.declared unanswered.old }
+    requires few { AreFew net.old.declared unanswered.old }
     ensures network { net.new.declared ≡ net.old.declared }
     ensures nodes { length begun.new ≡ length begun.old }
-    ensures begins { IfOk result (λ made. BeginsOne senders.now.load net.old begun.old made net.new begun.new) }
+    ensures begins { IfOk result (λ made. BeginsOne senders.now.load net.old begun.old unanswered.old made net.new begun.new unanswered.new) }
     ensures refused { OnErr result (net.new ≡ net.old) }
 {
-    let Some(node) = find_ready(net, senders, begun) else {
+    let Some(node) = find_ready(net, senders, begun, unanswered) else {
         return Ok(false);
     };
     // Names the total, which bounds what a node begins.
     let _total = senders.load().total();
-    match senders.packet(node, begun[node as usize]) {
+    match within_limit(
+        net.network(),
+        senders,
+        unanswered,
+        node,
+        begun[node as usize],
+    ) {
         Some(packet) => {
+            let counting = counting_of_flow(net.network(), packet.flow());
             begin_packet(alloc, net, packet)?;
             begun[node as usize] += 1;
+            unanswered.count(net, counting);
             Ok(true)
         }
         None => unreachable!(),

@@ -30,7 +30,7 @@ impl<'n, R: Routing, A: Arbiter> History<'n, R, A> {
                 if !self.net.can_begin(node) {
                     return None;
                 }
-                self.next(node)
+                self.next_within(node)
             }
             PlaceEnd::Switch(_, _) => None,
         }

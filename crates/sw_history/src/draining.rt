@@ -2,7 +2,9 @@
 ghost use Rattle.std.specs.Prelude.{◌≡◌, ℕ, IfOk, List, OnErr, length, replicate};
 ghost use Rattle.sw_history.specs.Drained.{IsDrained, IsUnderWay};
 ghost use Rattle.sw_history.specs.Turns.{TurnsLead};
-ghost use Rattle.sw_history.specs.Way.{MovesPicked};
+ghost use Rattle.sw_history.specs.Unanswered.{AreByNode, AreFew, no_counts};
+ghost use Rattle.sw_history.specs.Way.{CountsMove, MovesPicked};
+ghost use Rattle.sw_machine.specs.Steps.{Step};
 ghost use Rattle.sw_load.specs.Laws.{AreDeclared};
 ghost use Rattle.sw_machine.specs.State.{empty};
 ghost use Rattle.sw_machine.specs.Model.{network_of};
@@ -11,6 +13,7 @@ ghost use Rattle.sw_net.specs.Net.{IsNetState};
 use crate::begin::begin_one;
 use crate::moves::{count_enabled, move_one};
 use crate::packets::nothing_begun;
+use crate::unanswered::Unanswered;
 use std::alloc::{AllocError, Global};
 use sw_arb::Arbiter;
 use sw_cert::Passed;
@@ -24,15 +27,18 @@ fn move_picked<R: Routing, A: Arbiter, F: FnMut(usize) -> usize>(
     alloc: Global,
     net: &mut Net<'_, R, A>,
     pick: &mut F,
+    unanswered: &mut Unanswered,
 ) -> Result<bool, AllocError>
     requires pick { (state : F) (count : _) → F.pre state count }
+    requires counts { AreByNode net.old.declared unanswered.old }
+    requires few { AreFew net.old.declared unanswered.old }
     ensures network { net.new.declared ≡ net.old.declared }
-    ensures moves { IfOk result (λ made. MovesPicked F.step net.old pick.old made net.new pick.new) }
+    ensures moves { IfOk result (λ made. (picked : MovesPicked F.step net.old pick.old made net.new pick.new) × CountsMove net.old unanswered.old picked.index made net.new unanswered.new picked.moved) }
     ensures refused { OnErr result (net.new ≡ net.old) }
 {
     let count = count_enabled(net);
     let index = if count == 0 { 0 } else { pick(count) };
-    move_one(alloc, net, index)
+    move_one(alloc, net, index, unanswered)
 }
 
 /// Sends all packets, of which none is begun, turn by turn until nothing is undelivered.
@@ -42,6 +48,7 @@ fn send_all<'n, R: Routing, A: Arbiter, F: FnMut(usize) -> usize>(
     passed: &Passed<'n>,
     senders: &Senders<'_>,
     begun: &mut [u32],
+    unanswered: &mut Unanswered,
     pick: &mut F,
 ) -> Result<u64, AllocError>
     requires empty { IsNetState net.old (empty (network_of net.old.declared)) }
@@ -49,19 +56,24 @@ fn send_all<'n, R: Routing, A: Arbiter, F: FnMut(usize) -> usize>(
     requires packets { AreDeclared net.old.declared senders.now.load }
     requires network { senders.now.declared ≡ net.old.declared }
     requires begun { begun.old ≡ replicate (length net.old.declared.nodes) 0 }
+    requires counts { unanswered.old ≡ no_counts (length net.old.declared.nodes) }
     requires pick { (state : F) (count : _) → F.pre state count }
     ensures network { net.new.declared ≡ net.old.declared }
     ensures drained { IfOk result (λ count. IsDrained senders.now.load net.new count) }
     ensures refused { OnErr result (IsUnderWay senders.now.load net.new) }
-    ensures turns { (counts : List ℕ) × (last : F) × TurnsLead senders.now.load F.step net.old pick.old net.new counts last }
+    ensures turns { (steps : List Step) × (last : F) × TurnsLead senders.now.load F.step net.old pick.old net.new steps last }
 {
     passed.is_deadlock_free();
+    // Names the total, which bounds the counts.
+    let _total = senders.load().total();
     let mut moves: u64 = 0;
     for _ in 0..enough_limit(net.network(), senders.load()) {
-        if begin_one(alloc, net, senders, begun)? {
+        if begin_one(alloc, net, senders, begun, unanswered)? {
             continue;
         }
-        if !move_picked(alloc, net, pick)? {
+        if !move_picked(alloc, net, pick, unanswered)? {
+            // Names the network's cells, which are sound by its type.
+            let _network = net.network();
             return Ok(moves);
         }
         moves += 1;
@@ -70,7 +82,8 @@ fn send_all<'n, R: Routing, A: Arbiter, F: FnMut(usize) -> usize>(
 }
 
 /// Sends the whole load through a network for which a certificate was accepted, from its empty state
-/// until nothing is undelivered: each node begins its packets in their order, each as soon as it can,
+/// until nothing is undelivered: each node begins its packets in their order, each as soon as it can
+/// and the limit on unanswered commands lets it,
 /// and else one of the link ends that can step makes a step. Which one `pick` says: it is passed how
 /// many can step, and answers how many of these, in the order of their numbers, come before it; an
 /// answer out of range counts as 0. Answers the number of steps other than beginnings: at most 14 for
@@ -95,15 +108,16 @@ pub fn drain<'n, R: Routing, A: Arbiter, F: FnMut(usize) -> usize>(
     ensures network { net.new.declared ≡ net.old.declared }
     ensures drained { IfOk result (λ count. IsDrained load.now net.new count) }
     ensures refused { OnErr result (IsUnderWay load.now net.new) }
-    ensures turns { (begun : List ℕ) × (last : F) × TurnsLead load.now F.step net.old pick net.new begun last }
+    ensures turns { (steps : List Step) × (last : F) × TurnsLead load.now F.step net.old pick net.new steps last }
 {
-    let (mut begun, senders) = nothing_begun(alloc, net.network(), load)?;
+    let (mut begun, mut unanswered, senders) = nothing_begun(alloc, net.network(), load)?;
     let sent = send_all(
         alloc,
         net,
         passed,
         &senders,
         begun.as_mut_slice(),
+        &mut unanswered,
         &mut pick,
     );
     drop(senders);

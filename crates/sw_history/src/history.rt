@@ -4,6 +4,7 @@ use crate::fault::StepFault;
 use crate::making::make;
 use crate::packets::{count_begun, is_same, nothing_begun};
 use crate::record::{Noted, plain};
+use crate::unanswered::{Unanswered, counting_of, within_limit};
 use std::alloc::{AllocError, Global};
 use std::marker::Model;
 use sw_arb::Arbiter;
@@ -21,6 +22,7 @@ pub struct History<'n, R: Routing, A: Arbiter> {
     pub(crate) senders: Senders<'n>,
     pub(crate) notes: Vec<Noted>,
     pub(crate) begun: Vec<u32>,
+    pub(crate) unanswered: Unanswered,
 }
 
 impl<'n, R: Routing, A: Arbiter> Model for History<'n, R, A> {
@@ -32,15 +34,15 @@ impl<'n, R: Routing, A: Arbiter> Model for History<'n, R, A> {
 
     ghost view = { λ h. record { declared = h.net.declared; load = h.senders.load; steps = map (noted_step h.senders) h.notes.items; room = vec_capacity h.notes - vec_len h.notes } };
 
-    ghost invariant = { λ h. IsKept h.net (record { declared = h.net.declared; load = h.senders.load; steps = map (noted_step h.senders) h.notes.items; room = vec_capacity h.notes - vec_len h.notes }) h.begun.items
+    ghost invariant = { λ h. IsKept h.net (record { declared = h.net.declared; load = h.senders.load; steps = map (noted_step h.senders) h.notes.items; room = vec_capacity h.notes - vec_len h.notes }) h.begun.items h.unanswered
         × (h.senders.declared ≡ h.net.declared)
         × All (IsNoted h.senders) h.notes.items };
 }
 
 impl<'n, R: Routing, A: Arbiter> History<'n, R, A> {
     ghost use Rattle.std.specs.Prelude.{◌≡◌, ◌<◌, IfErr, IfNone, IfOk, IfSome, OnErr, OnOk, length, option_map};
-    ghost use Rattle.sw_history.specs.History.{Adds, IsNext};
-    ghost use Rattle.sw_history.specs.Next.{beginner_of};
+    ghost use Rattle.sw_history.specs.History.{Adds, IsNext, Keeps};
+    ghost use Rattle.sw_history.specs.Next.{BeginsOne, begin_of, beginner_of};
     ghost use Rattle.sw_history.specs.Noted.{IsNoted, noted_step, senders_of};
     ghost use Rattle.sw_history.specs.declared.fault.StepFault.TheVariants.{NotEnabled};
     ghost use Rattle.sw_machine.specs.Steps.{Begin};
@@ -63,13 +65,33 @@ impl<'n, R: Routing, A: Arbiter> History<'n, R, A> {
         self.senders.packet(node, self.begun[node as usize])
     }
 
+    /// The packet that the node is to begin next, if its beginning is within the limit on unanswered
+    /// commands of the node where it ends.
+    pub(crate) fn next_within(&self, node: u16) -> Option<&LoadPacket>
+        requires { node < length self.now.declared.nodes }
+        ensures some { IfSome result (λ p. next_packet (network_of self.now.declared) (packets_of self.now.load) self.now.steps node ≡ Some (packet_of p.now)) }
+        ensures keeps { IfSome result (λ p. Keeps self.now (begin_of (packet_of p.now))) }
+        ensures none { IfNone result (BeginsOne (network_of self.now.declared) (packets_of self.now.load) self.now.steps node → ⊥) }
+    {
+        // Names the total, which bounds the counts.
+        let _total = self.senders.load().total();
+        within_limit(
+            self.net.network(),
+            &self.senders,
+            &self.unanswered,
+            node,
+            self.begun[node as usize],
+        )
+    }
+
     /// Whether these are the flow, cargo and end of the packet that the node where the flow starts is
-    /// to begin next: then that node.
+    /// to begin next, and the limit on unanswered commands lets it: then that node.
     #[inline(never)]
     fn sender(&self, flow: u16, cargo: &[u8], end: End) -> Option<u16>
         ensures some { IfSome result (λ n. n ≡ ((network_of self.now.declared).flow flow).from) }
         ensures within { IfSome result (λ n. n < length self.now.declared.nodes) }
         ensures next { IfSome result (λ n. next_packet (network_of self.now.declared) (packets_of self.now.load) self.now.steps n ≡ Some (record { flow = flow; cargo = cargo.now; end = end })) }
+        ensures keeps { IfSome result (λ n. Keeps self.now (Begin flow cargo.now end)) }
         ensures none { IfNone result (IsNext self.now (Begin flow cargo.now end) → ⊥) }
     {
         let network = self.net.network();
@@ -77,7 +99,7 @@ impl<'n, R: Routing, A: Arbiter> History<'n, R, A> {
             return None;
         }
         let node = network.flow(flow).from();
-        match self.next(node) {
+        match self.next_within(node) {
             Some(packet) => {
                 if is_same(packet, flow, cargo, end) {
                     Some(node)
@@ -89,11 +111,13 @@ impl<'n, R: Routing, A: Arbiter> History<'n, R, A> {
         }
     }
 
-    /// The node that begins a packet by the step, if it begins one: that has to be its next.
+    /// The node that begins a packet by the step, if it begins one: that has to be its next, within the
+    /// limit on unanswered commands.
     #[inline(always)]
     pub(crate) fn beginner(&self, step: &Step) -> Result<Option<u16>, StepFault>
         ensures refused { IfErr result (λ e. (e ≡ NotEnabled) × (IsNext self.now (machine_step step.now) → ⊥)) }
         ensures next { IfOk result (λ n. BeginsNext (network_of self.now.declared) (packets_of self.now.load) self.now.steps (machine_step step.now)) }
+        ensures keeps { IfOk result (λ n. Keeps self.now (machine_step step.now)) }
         ensures node { IfOk result (λ n. n ≡ beginner_of (network_of self.now.declared) (machine_step step.now)) }
         ensures within { IfOk result (λ n. IfSome n (λ n. n < length self.now.declared.nodes)) }
     {
@@ -149,14 +173,17 @@ impl<'n, R: Routing, A: Arbiter> History<'n, R, A> {
         requires { 0 < self.old.room }
         ensures { Adds self.old (machine_step step) result self.new }
     {
-        // Names the total, which bounds what a node begins.
+        // Names the total, which bounds what a node begins, and the network, which is valid by its type.
         let _total = self.senders.load().total();
+        let _network = self.net.network();
         let beginner = self.beginner(&step)?;
         let note = self.note(&step, beginner);
+        let counting = counting_of(&self.net, &step);
         let made = make(&mut self.net, alloc, &step);
         drop(step);
         made?;
         count_begun(self.begun.as_mut_slice(), beginner);
+        self.unanswered.count(&self.net, counting);
         self.notes.push_reserved(note);
         Ok(())
     }
@@ -186,11 +213,12 @@ impl<'n, R: Routing + Drop, A: Arbiter + Drop> History<'n, R, A> {
         ensures steps { IfOk result (λ h. h.steps ≡ []) }
     {
         match nothing_begun(alloc, net.network(), load) {
-            Ok((begun, senders)) => Ok(History {
+            Ok((begun, unanswered, senders)) => Ok(History {
                 net,
                 senders,
                 notes: Vec::new(alloc),
                 begun,
+                unanswered,
             }),
             Err(refused) => {
                 net.discard();

@@ -6,8 +6,8 @@ pub fn one_state_after()
     ensures { OneStateAfter }
 {}
 
-/// A step may follow a history exactly where it is possible in the state after it, and begins no
-/// packet but the next of its node.
+/// A step may follow a history exactly where it is possible in the state after it, begins no packet
+/// but the next of its node, and keeps the limit on unanswered commands.
 pub fn follows_where_possible()
     ensures { FollowsWherePossible }
 {}

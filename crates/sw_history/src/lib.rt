@@ -14,6 +14,7 @@ mod making;
 mod moves;
 mod packets;
 mod record;
+mod unanswered;
 
 pub use draining::drain;
 pub use fault::StepFault;

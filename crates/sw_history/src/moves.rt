@@ -1,9 +1,11 @@
 //! The steps other than beginnings.
 ghost use Rattle.std.specs.Prelude.{◌≡◌, ◌<◌, ◌*◌, IfNone, IfOk, IfSome, OnErr, length, true};
 ghost use Rattle.sw_history.specs.Enabled.{CanStepBelow, IsChosen, IsNth};
-ghost use Rattle.sw_history.specs.Way.{MovesOne};
+ghost use Rattle.sw_history.specs.Unanswered.{AreByNode, AreFew};
+ghost use Rattle.sw_history.specs.Way.{CountsMove, MovesOne};
 ghost use Rattle.sw_net.specs.Asked.{IsQuietNet};
 
+use crate::unanswered::{Unanswered, counting_at_end};
 use std::alloc::{AllocError, Global};
 use sw_arb::Arbiter;
 use sw_net::Net;
@@ -55,23 +57,30 @@ fn enabled_at<R: Routing, A: Arbiter>(net: &Net<'_, R, A>, index: usize) -> Opti
 }
 
 /// One of the link ends that can step makes a step: that one with so many before it that can, or the
-/// first. The answer is no where none can.
+/// first. The answer is no where none can. What is unanswered is counted.
 pub(crate) fn move_one<R: Routing, A: Arbiter>(
     alloc: Global,
     net: &mut Net<'_, R, A>,
     index: usize,
+    unanswered: &mut Unanswered,
 ) -> Result<bool, AllocError>
+    requires counts { AreByNode net.old.declared unanswered.old }
+    requires few { AreFew net.old.declared unanswered.old }
     ensures network { net.new.declared ≡ net.old.declared }
-    ensures moves { IfOk result (λ made. MovesOne net.old index made net.new) }
+    ensures moves { IfOk result (λ made. (moved : MovesOne net.old index made net.new) × CountsMove net.old unanswered.old index made net.new unanswered.new moved) }
     ensures refused { OnErr result (net.new ≡ net.old) }
 {
     let _network = net.network();
     let Some(end) = enabled_at(net, index) else {
         return Ok(false);
     };
+    let counting = counting_at_end(net, end);
     match net.step_of(alloc, end) {
         Ok(made) => match made {
-            Some(_) => Ok(true),
+            Some(_) => {
+                unanswered.count(net, counting);
+                Ok(true)
+            }
             None => unreachable!(),
         },
         Err(refused) => Err(refused),

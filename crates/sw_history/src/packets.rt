@@ -1,9 +1,11 @@
 //! The packets of a load, by the node that sends them.
 ghost use Rattle.std.specs.Prelude.{◌≡◌, ◌↔◌, ◌<◌, IfOk, IfSome, IsTrue, length, replicate, slice_index};
 ghost use Rattle.sw_history.specs.Makes.{counted_with};
+ghost use Rattle.sw_history.specs.Unanswered.{no_counts};
 ghost use Rattle.sw_load.specs.History.{packet_of};
 ghost use Rattle.sw_load.specs.Laws.{AreDeclared};
 
+use crate::unanswered::Unanswered;
 use std::alloc::{AllocError, Global};
 use sw_char::End;
 use sw_config::Network;
@@ -16,19 +18,23 @@ pub(crate) fn is_same(packet: &LoadPacket, flow: u16, cargo: &[u8], end: End) ->
     packet.flow() == flow && packet.cargo() == cargo && packet.end() == end
 }
 
-/// How many packets each node has begun, of which there are none yet, and what each sends.
+/// How many packets each node has begun, of which there are none yet, what is unanswered at each, and
+/// what each sends.
 pub(crate) fn nothing_begun<'n>(
     alloc: Global,
     network: &'n Network,
     load: &'n Load,
-) -> Result<(Vec<u32>, Senders<'n>), AllocError>
+) -> Result<(Vec<u32>, Unanswered, Senders<'n>), AllocError>
     requires { AreDeclared network.now load.now }
     ensures begun { IfOk result (λ made. made.0.items ≡ replicate (length network.now.nodes) 0) }
-    ensures network { IfOk result (λ made. made.1.declared ≡ network.now) }
-    ensures load { IfOk result (λ made. made.1.load ≡ load.now) }
+    ensures unanswered { IfOk result (λ made. made.1 ≡ no_counts (length network.now.nodes)) }
+    ensures network { IfOk result (λ made. made.2.declared ≡ network.now) }
+    ensures load { IfOk result (λ made. made.2.load ≡ load.now) }
 {
-    let begun = vec![in alloc; 0u32; network.nodes() as usize]?;
-    Ok((begun, Senders::new(alloc, network, load)?))
+    let nodes = network.nodes() as usize;
+    let begun = vec![in alloc; 0u32; nodes]?;
+    let unanswered = Unanswered::new(alloc, nodes)?;
+    Ok((begun, unanswered, Senders::new(alloc, network, load)?))
 }
 
 /// Counts one more packet for the node that begins one, if any does.

@@ -15,3 +15,4 @@ pub mod Making
 mod ChangedNumbers
 pub mod Undeclared
 pub use Rattle.sw_cell.proofs.Network as CellNetwork
+pub mod Alike

@@ -1,12 +1,15 @@
-use Rattle.std.proofs.Common.{◌≡◌, ◌∙◌, ◌++◌, ◌-◌, ◌<◌, ◌∷◌, [], ℕ, Err, List, ap, arith, length, map, rules, subst, sym}
+use Rattle.std.proofs.Common.{◌≡◌, ◌∙◌, ◌++◌, ◌-◌, ◌<◌, ◌≤◌, ◌∷◌, [], ℕ, Err, List, ap, arith, length, map, rules, subst, sym}
 use Rattle.std.specs.Prelude.{IfSome, slice_index, vec_capacity, vec_len}
 use Rattle.sw_history.proofs.Adds.{add_is_kept, made_may_follow, same_view, written}
 use Rattle.sw_history.proofs.Counts.{counted_more, few_begun, length-counted}
 use Rattle.sw_history.proofs.Noting.{all_noted, noted_more, same_senders}
 use Rattle.sw_history.proofs.Refused.{refused}
+use Rattle.sw_history.proofs.Within.{few}
+use Rattle.sw_config.specs.Entries.{Declaration}
+use Rattle.sw_history.specs.Unanswered.{AreFew}
 use Rattle.sw_history.specs.Noted.{noted_step}
 use Rattle.sw_history.proofs.history.History.add.Goals as goal
-use Rattle.sw_history.specs.History.{Adds, HistoryView, IsCounted, IsKept}
+use Rattle.sw_history.specs.History.{Adds, HistoryView, IsCounted, IsKept, Keeps}
 use Rattle.sw_history.specs.Makes.{counted_with}
 use Rattle.sw_load.specs.History.{BeginsNext, packets_of}
 use Rattle.sw_load.specs.Load.{packet_count}
@@ -19,23 +22,32 @@ returns-in_err-made g c =
     let in_self = c.self.inside in
     let now = c.args.self.now in
     let step = machine_step c.args.step in
-    let kept = subst (λ (k : HistoryView). IsKept in_self.net k in_self.begun.items) c.self.view_is c.self.invariant.0 in
+    let kept = subst (λ (k : HistoryView). IsKept in_self.net k in_self.begun.items in_self.unanswered) c.self.view_is c.self.invariant.0 in
     let same : c.from_residual-in_err-made.result ≡ Err c.in_err-made.field-0.0 = search rules in
     let view : NetView g.row.R.Denot g.row.A.Denot → HistoryView = λ n. record { declared = n.declared; load = in_self.senders.load; steps = map (noted_step in_self.senders) in_self.notes.items; room = vec_capacity in_self.notes - vec_len in_self.notes } in
     let stays = ap view c.in_err-made.ensures.refused ∙ c.self.view_is in
     subst (λ r. Adds now step r (view c.make-made.new.net)) (sym same)
-    (refused in_self.net c.make-made.new.net now (view c.make-made.new.net) in_self.begun.items step c.in_err-made.field-0.0 kept c.in_ok-beginner.ensures.next c.in_err-made.ensures.answers stays)
+    (refused in_self.net c.make-made.new.net now (view c.make-made.new.net) in_self.begun.items step c.in_err-made.field-0.0 kept c.in_ok-beginner.ensures.next c.in_ok-beginner.ensures.keeps c.in_err-made.ensures.answers stays)
 
 pub count_begun-requires-clause-few : goal.count_begun-requires-clause-few
 count_begun-requires-clause-few g c =
     let in_self = c.self.inside in
     let now = c.args.self.now in
-    let kept = subst (λ (k : HistoryView). IsKept in_self.net k in_self.begun.items) c.self.view_is c.self.invariant.0 in
+    let kept = subst (λ (k : HistoryView). IsKept in_self.net k in_self.begun.items in_self.unanswered) c.self.view_is c.self.invariant.0 in
     let count = c.total-total.ensures.count ∙ ap packet_count c.load.ensures ∙ ap (λ (k : HistoryView). packet_count k.load) c.self.view_is in
     let few = c.total-total.ensures.few in
     let who = c.in_ok-beginner.beginner in
     subst (λ (l : List ℕ). IfSome who (λ n. slice_index l n < 65536)) (sym c.as_mut_slice.ensures.value)
     (few_begun now.declared now.load now.steps in_self.begun.items kept.counted (machine_step c.args.step) who (length now.declared.nodes) 65536 kept.all_nodes (omega arith) c.in_ok-beginner.ensures.node c.in_ok-beginner.ensures.within c.in_ok-beginner.ensures.next)
+
+pub count-requires-clause-few : goal.count-requires-clause-few
+count-requires-clause-few g c =
+    let in_self = c.self.inside in
+    let kept = c.self.invariant.0 in
+    let valid = c.network-network.ensures.sound.valid in
+    let total = subst (λ k. k ≤ 65536) (c.total-total.ensures.count ∙ ap packet_count c.load.ensures) c.total-total.ensures.few in
+    subst (λ (d : Declaration). AreFew d in_self.unanswered) (sym c.make-made.ensures.network)
+    (few in_self.net.declared valid in_self.senders.load kept.packets total _ kept.state kept.leads in_self.unanswered kept.unanswered)
 
 pub invariant_of-self-2 : goal.invariant_of-self-2
 invariant_of-self-2 g c =
@@ -43,8 +55,9 @@ invariant_of-self-2 g c =
     let now = c.args.self.now in
     let step = machine_step c.args.step in
     let who = c.in_ok-beginner.beginner in
-    let kept = subst (λ (k : HistoryView). IsKept in_self.net k in_self.begun.items) c.self.view_is c.self.invariant.0 in
+    let kept = subst (λ (k : HistoryView). IsKept in_self.net k in_self.begun.items in_self.unanswered) c.self.view_is c.self.invariant.0 in
     let next = subst (λ (k : HistoryView). BeginsNext (network_of k.declared) (packets_of k.load) k.steps step) (sym c.self.view_is) c.in_ok-beginner.ensures.next in
+    let keep = subst (λ (k : HistoryView). Keeps k step) (sym c.self.view_is) c.in_ok-beginner.ensures.keeps in
     let more = c.count_begun.ensures ∙ ap (λ (l : List ℕ). counted_with l who) c.as_mut_slice.ensures.value in
     let long = length-counted in_self.begun.items who in
     let size = ap (λ (l : List ℕ). length l) more ∙ long in
@@ -56,7 +69,7 @@ invariant_of-self-2 g c =
     let inside = subst (λ (k : HistoryView). IsCounted k.declared (k.steps ++ step ∷ []) (counted_with in_self.begun.items who)) (sym c.self.view_is) counted in
     let room = vec_capacity in_self.notes - vec_len in_self.notes in
     let less = vec_capacity c.push_reserved.new.self - vec_len c.push_reserved.new.self in
-    let is = add_is_kept in_self.net c.make-made.new.net in_self.senders.load (map (noted_step in_self.senders) in_self.notes.items) step room less in_self.begun.items (counted_with in_self.begun.items who) c.make-made.ensures.network c.self.invariant.0 next c.in_ok-made.ensures.answers long inside in
+    let is = add_is_kept in_self.net c.make-made.new.net in_self.senders.load (map (noted_step in_self.senders) in_self.notes.items) step room less in_self.begun.items (counted_with in_self.begun.items who) in_self.unanswered c.count.new.self c.network-network.ensures.sound.valid c.make-made.ensures.network c.self.invariant.0 next keep c.in_ok-made.ensures.answers long inside c.counting_of-counting.result c.counting_of-counting.ensures.counting c.count.ensures in
     rw (last, items) (is, c.self.invariant.1 ∙ sym c.make-made.ensures.network, sound)
 
 pub returns : goal.returns
@@ -64,7 +77,7 @@ returns g c =
     let in_self = c.self.inside in
     let now = c.args.self.now in
     let step = machine_step c.args.step in
-    let kept = subst (λ (k : HistoryView). IsKept in_self.net k in_self.begun.items) c.self.view_is c.self.invariant.0 in
+    let kept = subst (λ (k : HistoryView). IsKept in_self.net k in_self.begun.items in_self.unanswered) c.self.view_is c.self.invariant.0 in
     let senders = same_senders in_self.senders in_self.net.declared now c.self.invariant.1 (ap (λ (k : HistoryView). k.declared) c.self.view_is) (ap (λ (k : HistoryView). k.load) c.self.view_is) in
     let last = noted_more in_self.senders now in_self.notes.items c.push_reserved.new.self.items c.note-note.result step senders c.push_reserved.ensures.items c.note-note.ensures.step ∙ ap (λ (k : HistoryView). k.steps ++ step ∷ []) c.self.view_is in
     let declared = c.make-made.ensures.network ∙ ap (λ (k : HistoryView). k.declared) c.self.view_is in
@@ -73,6 +86,6 @@ returns g c =
     let capacity = c.push_reserved.ensures.capacity in
     let len = c.push_reserved.ensures.len in
     let left : vec_capacity c.push_reserved.new.self - vec_len c.push_reserved.new.self ≡ now.room - 1 = omega arith in (
-      made_may_follow in_self.net c.make-made.new.net now in_self.begun.items step kept c.in_ok-beginner.ensures.next c.in_ok-made.ensures.answers,
+      made_may_follow in_self.net c.make-made.new.net now in_self.begun.items in_self.unanswered step kept c.in_ok-beginner.ensures.next c.in_ok-beginner.ensures.keeps c.in_ok-made.ensures.answers,
       same_view now c.make-made.new.net.declared in_self.senders.load (map (noted_step in_self.senders) c.push_reserved.new.self.items) _ declared load (now.steps ++ step ∷ []) last (now.room - 1) left,
     )

@@ -7,7 +7,7 @@ use Rattle.sw_machine.specs.StepValues.{machine_step}
 pub returns-in-Some-clause-some : goal.returns-in-Some-clause-some
 returns-in-Some-clause-some g c =
     let in_self = c.self.inside in
-    let kept = subst (λ (k : HistoryView). IsKept in_self.net k in_self.begun.items) c.self.view_is c.self.invariant.0 in
+    let kept = subst (λ (k : HistoryView). IsKept in_self.net k in_self.begun.items in_self.unanswered) c.self.view_is c.self.invariant.0 in
     next_move in_self.net c.args.self.now in_self.begun.items kept c.args.end (machine_step c.in-Some.step) c.in-Some.ensures.some c.in-Some.ensures.possible
 
 pub returns-in_ok-beginning-in-Some-may_begin_at-clause-some : goal.returns-in_ok-beginning-in-Some-may_begin_at-clause-some
@@ -17,5 +17,5 @@ returns-in_ok-beginning-in-Some-may_begin_at-clause-some g c =
 pub returns-in-None-clause-none : goal.returns-in-None-clause-none
 returns-in-None-clause-none g c =
     let in_self = c.self.inside in
-    let kept = subst (λ (k : HistoryView). IsKept in_self.net k in_self.begun.items) c.self.view_is c.self.invariant.0 in
+    let kept = subst (λ (k : HistoryView). IsKept in_self.net k in_self.begun.items in_self.unanswered) c.self.view_is c.self.invariant.0 in
     idle_by in_self.net c.args.self.now in_self.begun.items kept c.args.end c.in_default.ensures.none c.in-None.ensures.none

@@ -9,13 +9,13 @@ use Rattle.sw_net.specs.Asked.{CanStep}
 pub returns-then-enabled : goal.returns-then-enabled
 returns-then-enabled g c =
     let in_self = c.self.inside in
-    let kept = subst (λ (k : HistoryView). IsKept in_self.net k in_self.begun.items) c.self.view_is c.self.invariant.0 in
+    let kept = subst (λ (k : HistoryView). IsKept in_self.net k in_self.begun.items in_self.unanswered) c.self.view_is c.self.invariant.0 in
     let can = subst (CanStep in_self.net c.args.end) c.if-enabled.true c.enabled.ensures in
     (λ t. absurd (false≢true t), λ idle. absurd (not_idle in_self.net c.args.self.now in_self.begun.items kept c.args.end can idle))
 
 pub returns : goal.returns
 returns g c =
     let in_self = c.self.inside in
-    let kept = subst (λ (k : HistoryView). IsKept in_self.net k in_self.begun.items) c.self.view_is c.self.invariant.0 in
+    let kept = subst (λ (k : HistoryView). IsKept in_self.net k in_self.begun.items in_self.unanswered) c.self.view_is c.self.invariant.0 in
     let none = subst (CanStep in_self.net c.args.end) c.if-enabled.false c.enabled.ensures in
     idle_told in_self.net c.args.self.now in_self.begun.items kept c.args.end none (λ p. packet_of p.now) c.may_begin_at.result c.is_none.result c.is_none.ensures c.may_begin_at.ensures.some c.may_begin_at.ensures.none

@@ -25,7 +25,7 @@ pub returns : goal.returns
 returns g c =
     let in_self = c.self.inside in
     let now = c.args.self.now in
-    let kept = subst (λ (k : HistoryView). IsKept in_self.net k in_self.begun.items) c.self.view_is c.self.invariant.0 in
+    let kept = subst (λ (k : HistoryView). IsKept in_self.net k in_self.begun.items in_self.unanswered) c.self.view_is c.self.invariant.0 in
     let same = c.network.ensures.network ∙ kept.network in
     let count = c.nodes-node-end.ensures.count ∙ ap (λ (d : Declaration). length d.nodes) same in
     let test = c.loop-node-test.false in

@@ -10,7 +10,7 @@ pub invariant_of-result : goal.invariant_of-result
 invariant_of-result g c =
     let all = ap (λ (d : Declaration). length d.nodes) c.network.ensures.network in
     let is = new_is_kept c.args.net c.args.load.now _ _ c.requires.state c.requires.packets all in
-    rw (c.new.ensures.items, c.in-Ok.ensures.begun, c.in-Ok.ensures.load) (is, c.in-Ok.ensures.network ∙ c.network.ensures.network, All-nil _)
+    rw (c.new.ensures.items, c.in-Ok.ensures.begun, c.in-Ok.ensures.unanswered, c.in-Ok.ensures.load) (is, c.in-Ok.ensures.network ∙ c.network.ensures.network, All-nil _)
 
 pub nothing_begun-requires : goal.nothing_begun-requires
 nothing_begun-requires g c = subst (λ (d : Declaration). AreDeclared d c.args.load.now) (sym c.network.ensures.network) c.requires.packets
