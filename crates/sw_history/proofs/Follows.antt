@@ -2,26 +2,13 @@
 use Rattle.std.proofs.Common.{◌≡◌, ◌++◌, ◌∷◌, ◌∙◌, [], ℕ, List, Some, false, length, refl, sym, ap, subst}
 use Rattle.std.specs.Prelude.{slice_get}
 use Rattle.sw_history.specs.Laws.{FollowsWherePossible, OneStateAfter}
-use Rattle.sw_load.proofs.Grown.{begun_at_last, grows, its_own}
+use Rattle.sw_load.proofs.Grown.{begun_at_last, grows, its_own, keeps_last, run_determined, split_last}
 use Rattle.sw_load.specs.History.{BeginsNext, IsHistory, packets_at}
-use Rattle.sw_machine.proofs.Determined.{determined}
 use Rattle.sw_machine.specs.Begun.{Begun, beginnings}
 use Rattle.sw_machine.specs.Network.{Network}
 use Rattle.sw_machine.specs.Runs.{Run}
 use Rattle.sw_machine.specs.State.{State, empty}
 use Rattle.sw_machine.specs.Steps.{Accept, Arrive, Begin, Drop, Emit, Fct, FctIn, Forward, Grant, IsPossible, Leads, Reply, Spill, Step, is_begin}
-
-run_determined : (net : Network) (steps : List Step) (s t u : State) → Run net s steps t → Run net s steps u → u ≡ t
-run_determined net [] s t u r q = q ∙ sym r
-run_determined net (step ∷ steps) s t u r q =
-    let same = determined net s step q.0 r.0 q.1 r.1 in
-    run_determined net steps r.0 t u r.2 (subst (λ m. Run net m steps u) same q.2)
-
-pub split_last : (net : Network) (steps : List Step) (step : Step) (s t : State) → Run net s (steps ++ step ∷ []) t → (m : State) × Run net s steps m × Leads net m step t
-split_last net [] step s t r = (s, refl, subst (λ m. Leads net s step m) (sym r.2) r.1)
-split_last net (first ∷ steps) step s t r =
-    let later = split_last net steps step r.0 t r.2 in
-    (later.0, (r.0, r.1, later.1), later.2)
 
 pub one_state_after : OneStateAfter
 one_state_after net packets steps s t h k = run_determined net steps (empty net) s t h.run k.run

@@ -143,18 +143,18 @@ all_are_kept net free steps before after flow cargo end s e r limit came is out 
 
 -- ---- what a step changes of what a node took, and of what it owes
 
--- the owed replies are no fewer than those that wait
-waits_owed : (net : Network) (n : ℕ) (steps : List Step) (s : State) → Run net (empty net) steps s → length (s.pending n) ≤ s.owed n
+-- the owed replies are those that wait, or one more
+waits_owed : (net : Network) (n : ℕ) (steps : List Step) (s : State) → Run net (empty net) steps s → (length (s.pending n) ≤ s.owed n) × (s.owed n ≤ length (s.pending n) + 1)
 waits_owed net n steps s r = enough (reached_holds net n steps s r).owing
   where
-    enough : Owing net n (last_beginning net n steps) (s.to_send n) (s.pending n) (s.owed n) → length (s.pending n) ≤ s.owed n
-    enough (OneMore l some e) = omega arith
-    enough (AsMany l e) = omega arith
+    enough : Owing net n (last_beginning net n steps) (s.to_send n) (s.pending n) (s.owed n) → (length (s.pending n) ≤ s.owed n) × (s.owed n ≤ length (s.pending n) + 1)
+    enough (OneMore l some e) = (omega arith, omega arith)
+    enough (AsMany l e) = (omega arith, omega arith)
 
 module _ (net : Network) (n : ℕ) where
-  -- nothing was taken, a byte was, or the end of a packet was, whose reply, if it has one, is owed
+  -- nothing was taken, and one reply at most was sent whole; a byte was, or the end of a packet was, whose reply, if it has one, is owed
   data Taking (taken : List NChar) (owed : ℕ) (taken2 : List NChar) (owed2 : ℕ) : Type 0 where
-    Nothing : taken2 ≡ taken → owed2 ≤ owed → Taking taken owed taken2 owed2
+    Nothing : taken2 ≡ taken → owed2 ≤ owed → owed ≤ owed2 + 1 → Taking taken owed taken2 owed2
     Byte : (b : ℕ) → taken2 ≡ taken ++ Data b ∷ [] → owed2 ≡ owed → Taking taken owed taken2 owed2
     Ends : (ps : List Packet) (memory bytes : List ℕ) (end : End) → IsCut taken ps bytes → taken2 ≡ taken ++ marker_of end ∷ [] → owed2 ≡ owed_with owed (net.answer n memory bytes end) → Taking taken owed taken2 owed2
 
@@ -162,23 +162,23 @@ module _ (net : Network) (n : ℕ) where
   TakingAt s t = Taking (s.taken n) (s.owed n) (t.taken n) (t.owed n)
 
   same : (s : State) → TakingAt s s
-  same s = Nothing refl (omega arith)
+  same s = Nothing refl (omega arith) (omega arith)
 
   dropped : (s : State) (c switch : ℕ) (first : NChar) (rest : List NChar) (t : State) → Drops net s c switch first rest t → TakingAt s t
   dropped s c switch (Data b) rest t d = subst (TakingAt s) (sym d.1) (same s)
   dropped s c switch Eop rest t d = subst (TakingAt s) (sym d) (same s)
   dropped s c switch Eep rest t d = subst (TakingAt s) (sym d) (same s)
 
-  emitted : (rest : List NChar) (pending : List PendingReply) (owed : ℕ) → length pending ≤ owed → owed_after rest pending owed ≤ owed
+  emitted : (rest : List NChar) (pending : List PendingReply) (owed : ℕ) → (length pending ≤ owed) × (owed ≤ length pending + 1) → (owed_after rest pending owed ≤ owed) × (owed ≤ owed_after rest pending owed + 1)
   emitted [] pending owed le = le
-  emitted (x ∷ rest) pending owed le = omega arith
+  emitted (x ∷ rest) pending owed le = (omega arith, omega arith)
 
   accepted : (s : State) (ps : List Packet) (bytes : List ℕ) (first : NChar) → IsCut (s.taken n) ps bytes → Taking (s.taken n) (s.owed n) (s.taken n ++ first ∷ []) (owed_with (s.owed n) (reply_at net n (s.memory n) bytes first))
   accepted s ps bytes (Data b) cut = Byte b refl refl
   accepted s ps bytes Eop cut = Ends ps (s.memory n) bytes ByEop cut refl refl
   accepted s ps bytes Eep cut = Ends ps (s.memory n) bytes ByEep cut refl refl
 
-  taking : (s : State) (step : Step) (t : State) → length (s.pending n) ≤ s.owed n → Leads net s step t → TakingAt s t
+  taking : (s : State) (step : Step) (t : State) → (length (s.pending n) ≤ s.owed n) × (s.owed n ≤ length (s.pending n) + 1) → Leads net s step t → TakingAt s t
   taking s (Fct c) t le h = subst (TakingAt s) (sym h.after) (same s)
   taking s (FctIn c) t le h = subst (TakingAt s) (sym h.after) (same s)
   taking s (Arrive c) t le h = subst (TakingAt s) (sym h.after) (same s)
@@ -190,9 +190,14 @@ module _ (net : Network) (n : ℕ) where
   taking s (Emit m) t le h = subst (TakingAt s) (sym h.after) (⊎_elim
       (λ here. Nothing refl (
       let is : put s.owed m (owed_after h.rest (s.pending m) (s.owed m)) n ≡ owed_after h.rest (s.pending n) (s.owed n) = rw (eq-eqb n m here) (ap (λ k. owed_after h.rest (s.pending k) (s.owed k)) (sym here)) in
-      let fewer = emitted h.rest (s.pending n) (s.owed n) le in
+      let fewer = (emitted h.rest (s.pending n) (s.owed n) le).0 in
+      omega arith) (
+      let is : put s.owed m (owed_after h.rest (s.pending m) (s.owed m)) n ≡ owed_after h.rest (s.pending n) (s.owed n) = rw (eq-eqb n m here) (ap (λ k. owed_after h.rest (s.pending k) (s.owed k)) (sym here)) in
+      let most = (emitted h.rest (s.pending n) (s.owed n) le).1 in
       omega arith))
-      (λ ne. Nothing refl (let is = put_there s.owed m (owed_after h.rest (s.pending m) (s.owed m)) n ne in omega arith))
+      (λ ne.
+      Nothing refl (let is = put_there s.owed m (owed_after h.rest (s.pending m) (s.owed m)) n ne in omega arith)
+      (let is = put_there s.owed m (owed_after h.rest (s.pending m) (s.owed m)) n ne in omega arith))
       (cases_eq n m))
   taking s (Accept m) t le h = subst (TakingAt s) (sym h.after) (⊎_elim
       (λ here. rw (eq-eqb n m here) (subst (λ k. Taking (s.taken n) (s.owed n) (s.taken k ++ h.first ∷ []) (owed_with (s.owed k) (reply_at net k (s.memory k) h.bytes h.first))) here
@@ -222,8 +227,15 @@ beginnings_push steps step = flat_map-append beginning steps (step ∷ []) ∙ a
 beginnings_stay : (steps : List Step) (step : Step) → is_begin step ≡ false → beginnings (steps ++ step ∷ []) ≡ beginnings steps
 beginnings_stay steps step e = beginnings_push steps step ∙ ap (λ l. beginnings steps ++ l) (no_beginning step e) ∙ append-nil (beginnings steps)
 
+-- 1 where less is owed than before: a reply was sent whole
+abbrev pub one_sent : ℕ → ℕ → ℕ
+one_sent before after = if nat_lt after before then 1 else 0
+
+pub stays : (before after : ℕ) → before ≤ after → one_sent before after ≡ 0
+stays before after le = rw (le-ltb after before le) refl
+
 module _ (net : Network) (ok : IsNetwork net) where
-  same_count : (n : ℕ) (s t : State) (came now : List Packet) → CameOut s n came → CameOut t n now → t.taken n ≡ s.taken n → now ≡ came
+  pub same_count : (n : ℕ) (s t : State) (came now : List Packet) → CameOut s n came → CameOut t n now → t.taken n ≡ s.taken n → now ≡ came
   same_count n s t came now out out2 e = (cuts_are_equal (s.taken n) now came out2.0 out.0 (sym e ∙ out2.1) out.1).0
 
   owes_more : (n : ℕ) (p : Packet) (owed : ℕ) (o : Option PendingReply) → option_map (λ (r : PendingReply). r.address) o ≡ net.reply_to n p.bytes → owed_with owed o ≡ owed + (if is_command_at net n p then 1 else 0)
@@ -231,7 +243,7 @@ module _ (net : Network) (ok : IsNetwork net) where
   owes_more n p owed (Some r) e = ap (λ o. owed + (if is_some o then 1 else 0)) e
 
   raised : (n : ℕ) → n < net.nodes → (begun few : ℕ) (s t : State) (came now : List Packet) → CameOut s n came → CameOut t n now → few ≡ begun → Taking net n (s.taken n) (s.owed n) (t.taken n) (t.owed n) → (few + t.owed n) - count_by (is_command_at net n) now ≤ (begun + s.owed n) - count_by (is_command_at net n) came
-  raised n ln begun few s t came now out out2 is (Nothing taken owed) = let c = ap (count_by (is_command_at net n)) (same_count n s t came now out out2 taken) in omega arith
+  raised n ln begun few s t came now out out2 is (Nothing taken owed most) = let c = ap (count_by (is_command_at net n)) (same_count n s t came now out out2 taken) in omega arith
   raised n ln begun few s t came now out out2 is (Byte b taken owed) =
       let cut = cut_byte (s.taken n) came out.0 b out.1 in
       let equal = (cuts_are_equal (s.taken n ++ Data b ∷ []) now came out2.0 (out.0 ++ b ∷ []) (sym taken ∙ out2.1) cut).0 in
@@ -252,6 +264,77 @@ module _ (net : Network) (ok : IsNetwork net) where
   only_beginnings_raise steps s r step t none leads n ln came now out out2 =
       let stay = ap (count_by (is_command_to net n)) (beginnings_stay steps step none) in
       raised n ln (count_by (is_command_to net n) (beginnings steps)) (count_by (is_command_to net n) (beginnings (steps ++ step ∷ []))) s t came now out out2 stay (taking net n s step t (waits_owed net n steps s r) leads)
+
+  -- ---- how many replies were sent whole
+
+  -- what is owed fell by one, or not at all
+  fell : (before after : ℕ) → after ≤ before → before ≤ after + 1 → one_sent before after + after ≡ before
+  fell before after less most = ⊎_elim
+      (λ lt. rw (lt-ltb after before lt) (omega arith))
+      (λ ge. rw (le-ltb after before ge) (omega arith))
+      (cases_lt after before)
+
+  sent_by : (n : ℕ) → n < net.nodes → (s t : State) (came now : List Packet) → CameOut s n came → CameOut t n now → Taking net n (s.taken n) (s.owed n) (t.taken n) (t.owed n)
+      → (one_sent (s.owed n) (t.owed n) + t.owed n) + count_by (is_command_at net n) came ≡ s.owed n + count_by (is_command_at net n) now
+  sent_by n ln s t came now out out2 (Nothing taken less most) =
+      let c = ap (count_by (is_command_at net n)) (same_count n s t came now out out2 taken) in
+      let f = fell (s.owed n) (t.owed n) less most in
+      omega arith
+  sent_by n ln s t came now out out2 (Byte b taken owed) =
+      let cut = cut_byte (s.taken n) came out.0 b out.1 in
+      let equal = (cuts_are_equal (s.taken n ++ Data b ∷ []) now came out2.0 (out.0 ++ b ∷ []) (sym taken ∙ out2.1) cut).0 in
+      let c = ap (count_by (is_command_at net n)) equal in
+      let z = stays (s.owed n) (t.owed n) (omega arith) in
+      omega arith
+  sent_by n ln s t came now out out2 (Ends ps memory bytes end cut taken owed) =
+      let p : Packet = record { bytes = bytes; end = end } in
+      let more = cut_marker (s.taken n) ps bytes end cut in
+      let equal = (cuts_are_equal (s.taken n ++ marker_of end ∷ []) now (ps ++ p ∷ []) out2.0 [] (sym taken ∙ out2.1) more).0 in
+      let before = (cuts_are_equal (s.taken n) came ps out.0 bytes out.1 cut).0 in
+      let a = ap (count_by (is_command_at net n)) equal in
+      let b = ap (count_by (is_command_at net n)) before in
+      let push = sum_by_push (λ p. if is_command_at net n p then 1 else 0) ps p in
+      let o = owes_more n p (s.owed n) (net.answer n memory bytes end) (ok.reply_goes n memory bytes end ln) in
+      let z = stays (s.owed n) (t.owed n) (omega arith) in
+      omega arith
+
+  -- what is owed, and the replies that were sent whole, are the commands that came out: each step but a beginning keeps that
+  pub replies_sent : (steps : List Step) (s : State) → Run net (empty net) steps s → (step : Step) (t : State) → Leads net s step t → (n : ℕ) → n < net.nodes → (came now : List Packet) → CameOut s n came → CameOut t n now
+      → (one_sent (s.owed n) (t.owed n) + t.owed n) + count_by (is_command_at net n) came ≡ s.owed n + count_by (is_command_at net n) now
+  replies_sent steps s r step t leads n ln came now out out2 = sent_by n ln s t came now out out2 (taking net n s step t (waits_owed net n steps s r) leads)
+
+  -- only the emission of a node's character lowers what it owes
+  pub owes_still : (n : ℕ) (s : State) (step : Step) (t : State) → Leads net s step t → (step ≡ Emit n → ⊥) → s.owed n ≤ t.owed n
+  owes_still n s (Fct c) t h other = let e = ap (λ (u : State). u.owed n) h.after in omega arith
+  owes_still n s (FctIn c) t h other = let e = ap (λ (u : State). u.owed n) h.after in omega arith
+  owes_still n s (Arrive c) t h other = let e = ap (λ (u : State). u.owed n) h.after in omega arith
+  owes_still n s (Grant d c) t h other = let e = ap (λ (u : State). u.owed n) h.after in omega arith
+  owes_still n s (Drop c) t h other = dropped_owes h.first h.after
+    where
+      dropped_owes : (first : NChar) → Drops net s c h.switch first h.rest t → s.owed n ≤ t.owed n
+      dropped_owes (Data b) d = let e = ap (λ (u : State). u.owed n) d.1 in omega arith
+      dropped_owes Eop d = let e = ap (λ (u : State). u.owed n) d in omega arith
+      dropped_owes Eep d = let e = ap (λ (u : State). u.owed n) d in omega arith
+  owes_still n s (Forward c) t h other = let e = ap (λ (u : State). u.owed n) h.after in omega arith
+  owes_still n s (Spill c) t h other = let e = ap (λ (u : State). u.owed n) h.after in omega arith
+  owes_still n s (Begin f cargo end) t h other = let e = ap (λ (u : State). u.owed n) h.after in omega arith
+  owes_still n s (Emit m) t h other =
+      let e = ap (λ (u : State). u.owed n) h.after in
+      let is = put_there s.owed m (owed_after h.rest (s.pending m) (s.owed m)) n (λ here. other (ap Emit (sym here))) in
+      omega arith
+  owes_still n s (Accept m) t h other = ⊎_elim
+      (λ here.
+      let e : t.owed n ≡ owed_with (s.owed m) (reply_at net m (s.memory m) h.bytes h.first) = ap (λ (u : State). u.owed n) h.after ∙ (rw (eq-eqb n m here) refl) in
+      let more = no_less (s.owed m) (reply_at net m (s.memory m) h.bytes h.first) in
+      let was = ap s.owed here in
+      omega arith)
+      (λ ne. let e : t.owed n ≡ s.owed n = ap (λ (u : State). u.owed n) h.after ∙ (rw (ne_eqb n m ne) refl) in omega arith)
+      (cases_eq n m)
+    where
+      no_less : (owed : ℕ) (o : Option PendingReply) → owed ≤ owed_with owed o
+      no_less owed None = omega arith
+      no_less owed (Some r) = omega arith
+  owes_still n s (Reply m) t h other = let e = ap (λ (u : State). u.owed n) h.after in omega arith
 
   -- the beginning of a packet to another node changes nothing of what is unanswered here
   away : (n flow : ℕ) (cargo : List ℕ) (end : End) → ((net.flow flow).to ≡ n → ⊥) → count_by (is_command_to net n) (record { flow = flow; cargo = cargo; end = end } ∷ []) ≡ 0

@@ -89,6 +89,14 @@ impl<'n, R: Routing, A: Arbiter> Net<'n, R, A> {
         self.first_enabled().is_none()
     }
 
+    /// How many replies the node owes: those that wait, and the one that it sends.
+    pub fn owed(&self, node: u16) -> usize
+        requires { node < length self.now.declared.nodes }
+        ensures { (s : State) → IsNetState self.now s → result ≡ s.owed node }
+    {
+        self.node(node).owed()
+    }
+
     /// The whole packets that came out at the node, in their order.
     ///
     /// # Errors
