@@ -60,11 +60,11 @@ answered_few (Some t) bytes way h = way_few bytes (read bytes) way refl h
 
 -- ---- what a declared network begins
 
-target_few : (o : Option TargetConfig) → IfSome o IsTargetConfig → (longest_reply o ≤ 65548) × (slots_of o ≤ 8)
+target_few : (o : Option TargetConfig) → IfSome o IsTargetConfig → (longest_reply o ≤ 65548) × (slots_of o ≤ 64)
 target_few None is = (omega arith, omega arith)
 target_few (Some t) is = let size = is.high_size in let slots = is.high_slots in (omega arith, omega arith)
 
-node_few : (nodes : List NodeEntry) (n : ℕ) → All IsNode nodes → n < length nodes → (longest_reply (target_of nodes n) ≤ 65548) × (slots_of (target_of nodes n) ≤ 8)
+node_few : (nodes : List NodeEntry) (n : ℕ) → All IsNode nodes → n < length nodes → (longest_reply (target_of nodes n) ≤ 65548) × (slots_of (target_of nodes n) ≤ 64)
 node_few nodes n all lt =
     let here = some_at nodes n lt in
     rw here.1 (target_few here.0.target (All-at IsNode nodes n here.0 here.1 all))
@@ -119,7 +119,7 @@ module _ (d : Declaration) (valid : IsValid d) where
 
   -- ---- and so what is undelivered
 
-  slots_few : (n : ℕ) → n < (network_of d).nodes → (network_of d).slots n ≤ 8
+  slots_few : (n : ℕ) → n < (network_of d).nodes → (network_of d).slots n ≤ 64
   unfolding network_of
   slots_few n lt = (node_few d.nodes n valid.nodes lt).1
 
@@ -141,7 +141,7 @@ module _ (d : Declaration) (valid : IsValid d) where
       let few = e.few in let fits = e.fits in let equation = e.equation in let room = room_few c lt in
       omega arith
       in
-      let at_nodes : (n : ℕ) → n < net.nodes → length (s.to_send n) + length_pending (s.pending n) ≤ 603979776 = λ n lt.
+      let at_nodes : (n : ℕ) → n < net.nodes → length (s.to_send n) + length_pending (s.pending n) ≤ 4362076160 = λ n lt.
       let small = sends_few net 67108864 begins_few steps s run n in
       let sending = small.sending in
       let waiting = replies_few (s.pending n) small.waiting in

@@ -122,7 +122,7 @@ replies_few (r ∷ l) all =
     omega arith
 
 module _ (f : ℕ → ℕ) where
-  pub total_at_nodes : (n : ℕ) → ((k : ℕ) → k < n → f k ≤ 603979776) → total n f ≤ n * 603979776
+  pub total_at_nodes : (n : ℕ) → ((k : ℕ) → k < n → f k ≤ 4362076160) → total n f ≤ n * 4362076160
   total_at_nodes zero each = omega arith
   total_at_nodes (suc n) each = let rest = total_at_nodes n (λ k lt. each k (omega arith)) in let here = each n (omega arith) in omega arith
 

@@ -54,7 +54,7 @@ taken node = chars node.packets ++ map Data node.bytes
 pub record IsNode (node : Node) : Type 0 where
   pub waiting : length node.pending ≤ node.owed
   pub within : node.owed ≤ slots node
-  pub few : slots node ≤ 8
+  pub few : slots node ≤ 64
 
 -- a packet's characters
 abbrev pub packet_chars : List ℕ → End → List NChar

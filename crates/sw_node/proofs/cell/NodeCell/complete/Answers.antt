@@ -66,7 +66,7 @@ invariant_of-self-in_default c =
     let p = c.self.inside in
     let is = c.self.invariant.0 in
     let same = ap (λ o. slots_of (config_of o)) c.in_ok-reply.ensures.target ∙ slots_same p.target _ in
-    (record { waiting = is.waiting; within = subst (λ k. p.owed ≤ k) (sym same) is.within; few = subst (λ k. k ≤ 8) (sym same) is.few }, c.self.invariant.1 ∙ sym same)
+    (record { waiting = is.waiting; within = subst (λ k. p.owed ≤ k) (sym same) is.within; few = subst (λ k. k ≤ 64) (sym same) is.few }, c.self.invariant.1 ∙ sym same)
 
 pub invariant_of-self-in-Some : goal.invariant_of-self-in-Some
 invariant_of-self-in-Some c =
@@ -79,7 +79,7 @@ invariant_of-self-in-Some c =
       record {
         waiting = subst (λ (l : List PendingReply). length l ≤ p.owed + 1) (sym (ap (λ (b : Buffer _). b.items) pushed)) (one_more p.pending.items c.in-Some.reply p.owed is.waiting);
         within = subst (λ k. p.owed + 1 ≤ k) (sym same) more;
-        few = subst (λ k. k ≤ 8) (sym same) is.few;
+        few = subst (λ k. k ≤ 64) (sym same) is.few;
       },
       ap (λ (b : Buffer _). b.capacity) pushed ∙ c.self.invariant.1 ∙ sym same,
     )
