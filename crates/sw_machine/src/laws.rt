@@ -10,6 +10,7 @@ ghost use Rattle.sw_machine.specs.Witnesses.{IsAnswered, IsDiscarded, IsDropped,
 ghost use Rattle.std.specs.Prelude.{◌<◌, ◌≤◌, ◌∷◌, [], None, Option, Some, ℕ};
 ghost use Rattle.sw_machine.specs.Begun.{AllComesOut, AllIsAnswered, ComesOutWhole, EachRunIsCounted, IsBounded, IsBoundedByLoad, RepliesAreAsked};
 ghost use Rattle.sw_machine.specs.DeadlockFreedom.{AcceptedIsFree, AlwaysGoesOn, AlwaysGoesOnWithinLimits, EndsEmpty, EndsEmptyWithinLimits, IsNeverLockedUp, IsNeverLockedUpWithinLimits, NothingIsDropped, OfAccepted, OfAcceptedWithoutLimits, QuietIsEmpty, QuietIsEmptyWithinLimits};
+ghost use Rattle.sw_machine.specs.LimitSamples.{LocksUp, detour, detour_certificate, detour_steps, duel, duel_certificate, duel_steps};
 ghost use Rattle.sw_machine.specs.Limits.{KeptAfterEachStep, NothingIsUnanswered, OnlyBeginningsRaise, WithoutLimitsAllAreKept};
 ghost use Rattle.sw_machine.specs.OneSlot.{OneSlotIsOneReply};
 ghost use Rattle.sw_machine.specs.Owed.{EmitSettles, NodesOweReplies, OnlyAskedOwe};
@@ -132,6 +133,20 @@ pub fn some_are_accepted()
     ensures network { (capacity : ℕ) → 8 ≤ capacity → IsNetwork (of_capacity capacity) }
     ensures misrouted { IsNetwork misrouted }
     ensures accepted { IsAccepted sample certificate }
+{}
+
+/// A network whose dependencies are a cycle without limits is accepted where fewer commands may be unanswered at
+/// each target than it may owe replies, and locks up where as many may be and replies end there too; one where only
+/// commands end at the target is accepted where as many may be, and locks up with one more.
+pub fn limits_are_sharp()
+    ensures duels { (slots : ℕ) (limit : Option ℕ) → 0 < slots → IsNetwork (duel slots limit) }
+    ensures duel_cyclic { (slots : ℕ) → IsCycle (duel slots None) (0 ∷ 1 ∷ []) }
+    ensures duel_accepted { (slots limit : ℕ) → limit < slots → IsAccepted (duel slots (Some limit)) duel_certificate }
+    ensures duel_sharp { LocksUp (duel 2 (Some 2)) duel_steps }
+    ensures detours { (limit : Option ℕ) → IsNetwork (detour limit) }
+    ensures detour_cyclic { IsCycle (detour None) (4 ∷ 3 ∷ 2 ∷ []) }
+    ensures detour_accepted { IsAccepted (detour (Some 1)) detour_certificate }
+    ensures detour_sharp { LocksUp (detour (Some 2)) detour_steps }
 {}
 
 /// On an empty channel as many FCTs are sent as there is room for, and seven at most; a packet that
