@@ -67,7 +67,7 @@ target_few (Some t) is = let size = is.high_size in let slots = is.high_slots in
 node_few : (nodes : List NodeEntry) (n : ℕ) → All IsNode nodes → n < length nodes → (longest_reply (target_of nodes n) ≤ 65548) × (slots_of (target_of nodes n) ≤ 64)
 node_few nodes n all lt =
     let here = some_at nodes n lt in
-    rw here.1 (target_few here.0.target (All-at IsNode nodes n here.0 here.1 all))
+    rw here.1 (target_few here.0.target (All-at IsNode nodes n here.0 here.1 all).target)
 
 packet_few : (r : PendingReply) → length r.address ≤ 13 → length r.cargo ≤ 65548 → length (reply_packet r) ≤ 67108864
 packet_few r address cargo =
