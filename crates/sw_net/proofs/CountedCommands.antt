@@ -1,9 +1,9 @@
 -- What is counted of commands and of replies tells what is unanswered.
-use Rattle.std.proofs.Common.{◌≡◌, ◌≢◌, ◌==◌, ◌&&◌, ◌||◌, ◌<◌, ◌≤◌, ◌+◌, ◌-◌, ◌∙◌, ◌++◌, ◌∷◌, ◌^◌, [], Bool, List, None, Option, Some, ℕ, ap, arith, count_by, eq-eqb, false, get_or, get_or-set_other, get_or-set_same, inl, inr, is_some, le-ltb, length, length-append, length-set, lt-ltb, min, nat_lt, ne_eqb, refl, replicate, set, subst, sym, true, ⊎_elim}
-use Rattle.std.specs.Prelude.{◌↔◌, if◌then◌else◌, option_and_then, slice_get}
+use Rattle.std.proofs.Common.{◌≡◌, ◌≢◌, ◌==◌, ◌&&◌, ◌||◌, ◌<◌, ◌≤◌, ◌+◌, ◌-◌, ◌∙◌, ◌++◌, ◌∷◌, ◌^◌, [], Bool, List, None, Option, Some, ℕ, ap, arith, count_by, eq-eqb, false, get_or, get_or-set_other, get_or-set_same, is_some, le-ltb, length, length-append, length-set, lt-ltb, min, nat_lt, ne_eqb, refl, replicate, set, subst, sym, true, ⊎_elim}
+use Rattle.std.specs.Prelude.{◌↔◌, if◌then◌else◌, slice_get}
 use Rattle.std.specs.Option.{option_map, option_map_or}
 use Rattle.std.proofs.Math.Nat.{min-eq_left, min-eq_right}
-use Rattle.std.proofs.lemmas.Bool.{and_from, cases_Bool, cases_eq, cases_lt, ltb-true}
+use Rattle.std.proofs.lemmas.Bool.{and_from, cases_eq, cases_lt, ltb-true}
 use Rattle.std.proofs.lemmas.List.{get_or-replicate, get_or_past, length-replicate}
 use Rattle.sw_char.specs.declared.nchar.End.{End}
 use Rattle.sw_config.proofs.AnsweringNodes.{answering_within}
@@ -21,11 +21,11 @@ use Rattle.sw_machine.specs.Begun.{Begun, beginning, beginnings}
 use Rattle.sw_machine.specs.Limits.{IsWithinLimit, KeepsLimits, is_command_at, is_command_to, unanswered}
 use Rattle.sw_machine.specs.Model.{flow_of, network_of, reply_number}
 use Rattle.sw_machine.specs.Network.{AnsweredBy, IsDeclared, IsNetwork, Network, left_bytes}
-use Rattle.sw_machine.specs.Packets.{IsCut, Packet}
+use Rattle.sw_machine.specs.Packets.{Packet}
 use Rattle.sw_machine.specs.Runs.{CameOut, Run}
 use Rattle.sw_machine.specs.State.{State, empty}
 use Rattle.sw_machine.specs.Steps.{Accept, Arrive, Begin, Drop, Emit, Fct, FctIn, Forward, Grant, Leads, Reply, Spill, Step}
-use Rattle.sw_net.specs.Unanswered.{AllowedIsWithin, AreFewBegun, AreSent, CountedAtFirst, CountedWithEachStep, Counts, CountsAreUnanswered, CountsUnanswered, allows, counted_with, has_room, limited_target, nothing_counted, one_more_at, target_with_limit, unanswered_at, with_begun, with_sent}
+use Rattle.sw_net.specs.Unanswered.{AllowedIsWithin, AreFewBegun, AreSent, CountedAtFirst, CountedWithEachStep, Counts, CountsAreUnanswered, CountsUnanswered, allows, counted_with, has_room, limited_target, one_more_at, target_with_limit, with_begun, with_sent}
 
 -- ---- one more
 
