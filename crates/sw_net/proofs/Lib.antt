@@ -13,6 +13,7 @@ pub mod Asks
 pub mod Parts
 pub mod Making
 mod ChangedNumbers
+pub mod CountedCommands
 pub mod Undeclared
 pub use Rattle.sw_cell.proofs.Network as CellNetwork
 pub mod Alike

@@ -12,6 +12,7 @@ pub mod Parts
 pub mod Policies
 pub mod Possible
 pub mod Switches
+pub mod Unanswered
 pub mod Changing
 pub use Rattle.sw_cell.specs.Places
 pub use Rattle.sw_cell.specs.declared.cell.CellId

@@ -14,6 +14,7 @@ mod part;
 mod possible;
 mod step;
 mod step_of;
+mod unanswered;
 
 pub use declared::{SwitchRoutes, declared_net};
 pub use net::Net;
@@ -29,3 +30,4 @@ pub use sw_machine::Step;
 pub use sw_node::PendingReply;
 pub use sw_switch::Input;
 pub use sw_topo::{LinkEnd, PortSet};
+pub use unanswered::{Unanswered, counts_are_unanswered};

@@ -17,6 +17,7 @@ pub mod Stops
 pub mod OneReport
 pub mod Making
 pub mod NetSteps
+pub mod LimitedSteps
 pub mod NetReports
 pub mod Outputs
 pub mod PartLists

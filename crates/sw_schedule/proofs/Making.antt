@@ -1,26 +1,45 @@
 -- Steps that are made one after another.
-use Rattle.std.proofs.Common.{List, Some, [], ap, append_assoc, arith, drop, get_or, length, length-append, refl, replicate, subst, suc, sym, take, zero, ℕ, ◌++◌, ◌+◌, ◌-◌, ◌<◌, ◌≤◌, ◌∙◌, ◌∷◌, ◌≡◌}
+use Rattle.std.proofs.Common.{List, None, Some, [], ap, append-nil, append_assoc, arith, drop, get_or, length, length-append, refl, replicate, subst, suc, sym, take, zero, ℕ, ◌++◌, ◌+◌, ◌-◌, ◌<◌, ◌≤◌, ◌∙◌, ◌∷◌, ◌≡◌}
 use Rattle.std.proofs.lemmas.List.{flat_map_more, length-replicate, replicate-append-replicate, take_more}
+use Rattle.sw_load.proofs.Grown.{keeps_with}
 use Rattle.sw_machine.proofs.RunLists.{run_append}
+use Rattle.sw_machine.specs.Limits.{KeepsLimits}
 use Rattle.sw_machine.specs.Network.{Network}
 use Rattle.sw_machine.specs.Runs.{Run}
-use Rattle.sw_machine.specs.State.{State}
-use Rattle.sw_machine.specs.Steps.{Leads, Step}
-use Rattle.sw_schedule.specs.declared.replayed.ReplayEnd.TheVariants.{Made, Refused}
+use Rattle.sw_machine.specs.State.{State, empty}
+use Rattle.sw_machine.specs.Steps.{Step}
+use Rattle.sw_schedule.specs.declared.replayed.ReplayEnd.TheVariants.{Refused}
 use Rattle.sw_schedule.specs.declared.replayed.StepRefusal.{StepRefusal}
-use Rattle.sw_schedule.specs.Replays.{Ends, MakesOr, Refuses}
+use Rattle.sw_schedule.specs.Replays.{Ends, MakesOr, Refuses, RunWithin}
 use Rattle.sw_schedule.specs.Lines.{Repeated}
 use Rattle.sw_schedule.specs.Schedule.{steps_of}
 
 module _ (net : Network) where
+  -- steps that are made behind steps that were made
+  pub within_append : (before : List Step) (a b : List Step) (s m t : State) → RunWithin net before s a m → RunWithin net (before ++ a) m b t → RunWithin net before s (a ++ b) t
+  within_append before [] b s m t r q = subst (λ (w : State). RunWithin net before w b t) r (subst (λ l. RunWithin net l m b t) (append-nil before) q)
+  within_append before (x ∷ a) b s m t (k, h, r) q = (k, h, within_append (before ++ x ∷ []) a b k m t r (subst (λ l. RunWithin net l m b t) (sym (append_assoc before (x ∷ []) a)) q))
+
+  -- they lead on, without regard to limits
+  pub run_of_within : (before steps : List Step) (s t : State) → RunWithin net before s steps t → Run net s steps t
+  run_of_within before [] s t r = r
+  run_of_within before (x ∷ l) s t (k, h, r) = (k, h.0, run_of_within (before ++ x ∷ []) l k t r)
+
+  -- and all steps from the empty state on keep the limits
+  pub within_keeps : (before steps : List Step) (s t : State) → Run net (empty net) before s → KeepsLimits net before → RunWithin net before s steps t → KeepsLimits net (before ++ steps)
+  within_keeps before [] s t run keeps r = subst (KeepsLimits net) (sym (append-nil before)) keeps
+  within_keeps before (x ∷ l) s t run keeps (k, h, r) =
+      subst (KeepsLimits net) (append_assoc before (x ∷ []) l)
+      (within_keeps (before ++ x ∷ []) l k t (run_append net before (x ∷ []) (empty net) s k run (k, h.0, refl)) (keeps_with net before s run keeps x k h.0 h.1) r)
+
   -- a step that is made once more
-  pub once_more : (s t u : State) (x : Step) (k : ℕ) → Run net s (replicate k x) t → Leads net t x u → Run net s (replicate (k + 1) x) u
-  once_more s t u x k run leads =
-      subst (λ (l : List Step). Run net s l u) (replicate-append-replicate k 1 x) (run_append net (replicate k x) (x ∷ []) s t u run (u, leads, refl))
+  pub once_more : (before : List Step) (s t u : State) (x : Step) (k : ℕ) → RunWithin net before s (replicate k x) t → MakesOr net (before ++ replicate k x) t x None u → RunWithin net before s (replicate (k + 1) x) u
+  once_more before s t u x k run makes =
+      subst (λ (l : List Step). RunWithin net before s l u) (replicate-append-replicate k 1 x) (within_append before (replicate k x) (x ∷ []) s t u run (u, makes, refl))
 
   -- a step that is refused, behind so many times that it was made
-  pub refused_then : (s t u : State) (x : Step) (k n : ℕ) (r : StepRefusal) → k < n → Run net s (replicate k x) t → MakesOr net t x (Some r) u → Ends net s (replicate n x) (Refused (k + 1) r) u
-  refused_then s t u x k n r lt run (refuses, same) =
+  pub refused_then : (before : List Step) (s t u : State) (x : Step) (k n : ℕ) (r : StepRefusal) → k < n → RunWithin net before s (replicate k x) t → MakesOr net (before ++ replicate k x) t x (Some r) u → Ends net before s (replicate n x) (Refused (k + 1) r) u
+  refused_then before s t u x k n r lt run (refuses, same) =
       let m : ℕ = n - (k + 1) in
       let is : n ≡ k + suc m = omega arith in
       record {
@@ -29,17 +48,13 @@ module _ (net : Network) where
         others = replicate m x;
         parts = ap (λ j. replicate j x) is ∙ sym (replicate-append-replicate k (suc m) x);
         counted = ap (λ j. j + 1) (sym (length-replicate k x));
-        run = subst (λ (w : State). Run net s (replicate k x) w) (sym same) run;
-        refused = subst (λ (w : State). Refuses net w x r) (sym same) refuses;
+        run = subst (λ (w : State). RunWithin net before s (replicate k x) w) (sym same) run;
+        refused = subst (λ (w : State). Refuses net (before ++ replicate k x) w x r) (sym same) refuses;
       }
 
-  -- it was made each time
-  pub made_all : (s t : State) (x : Step) (k n : ℕ) → k ≡ n → Run net s (replicate k x) t → Ends net s (replicate n x) (Made n) t
-  made_all s t x k n is run = (sym (length-replicate n x), subst (λ (j : ℕ). Run net s (replicate j x) t) is run)
-
   -- steps that are stopped behind steps that were made
-  pub stopped_then : (s t u : State) (a b rest : List Step) (count k : ℕ) (r : StepRefusal) → Run net s a t → count ≡ length a → Ends net t b (Refused k r) u → Ends net s (a ++ (b ++ rest)) (Refused (count + k) r) u
-  stopped_then s t u a b rest count k r run is stop =
+  pub stopped_then : (before : List Step) (s t u : State) (a b rest : List Step) (count k : ℕ) (r : StepRefusal) → RunWithin net before s a t → count ≡ length a → Ends net (before ++ a) t b (Refused k r) u → Ends net before s (a ++ (b ++ rest)) (Refused (count + k) r) u
+  stopped_then before s t u a b rest count k r run is stop =
       let parts : a ++ (b ++ rest) ≡ (a ++ stop.made) ++ (stop.step ∷ (stop.others ++ rest)) =
       ap (λ (l : List Step). a ++ (l ++ rest)) stop.parts
       ∙ ap (λ (l : List Step). a ++ l) (append_assoc stop.made (stop.step ∷ stop.others) rest)
@@ -53,12 +68,12 @@ module _ (net : Network) where
         others = stop.others ++ rest;
         parts = parts;
         counted = omega arith;
-        run = run_append net a stop.made s t u run stop.run;
-        refused = stop.refused;
+        run = within_append before a stop.made s t u run stop.run;
+        refused = subst (λ l. Refuses net l u stop.step r) (append_assoc before a stop.made) stop.refused;
       }
 
-  pub stopped_at : (s t u : State) (all a b rest : List Step) (count k : ℕ) (r : StepRefusal) → all ≡ a ++ (b ++ rest) → Run net s a t → count ≡ length a → Ends net t b (Refused k r) u → Ends net s all (Refused (count + k) r) u
-  stopped_at s t u all a b rest count k r parts run is stop = subst (λ (l : List Step). Ends net s l (Refused (count + k) r) u) (sym parts) (stopped_then s t u a b rest count k r run is stop)
+  pub stopped_at : (before : List Step) (s t u : State) (all a b rest : List Step) (count k : ℕ) (r : StepRefusal) → all ≡ a ++ (b ++ rest) → RunWithin net before s a t → count ≡ length a → Ends net (before ++ a) t b (Refused k r) u → Ends net before s all (Refused (count + k) r) u
+  stopped_at before s t u all a b rest count k r parts run is stop = subst (λ (l : List Step). Ends net before s l (Refused (count + k) r) u) (sym parts) (stopped_then before s t u a b rest count k r run is stop)
 
 -- steps that are made, and some of those behind them, are some of all
 pub within_all : (all a b rest : List Step) (count k : ℕ) → all ≡ a ++ (b ++ rest) → count ≤ length a → k ≤ length b → count + k ≤ length all

@@ -40,5 +40,5 @@ module _ (net : Network) (s : State) (r q : Report) (x : IsTrueOf net s r) (y : 
 
 pub replays_are_determined : ReplaysAreDetermined
 replays_are_determined d steps r q x y =
-    let end = one_end (network_of d) (empty (network_of d)) x.state y.state steps r.outcome q.outcome x.ends y.ends in
+    let end = one_end (network_of d) [] (empty (network_of d)) x.state y.state steps r.outcome q.outcome x.ends y.ends in
     same_report (network_of d) y.state r q (subst (λ (s : State). IsTrueOf (network_of d) s r) end.1 x.report) y.report end.0

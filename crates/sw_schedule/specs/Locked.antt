@@ -1,6 +1,6 @@
 -- Where a network is locked up: what each of its cells has of the state then.
 use Rattle.std.specs.List.{AllZip, range_with_len}
-use Rattle.std.specs.Prelude.{◌≡◌, ◌++◌, List, None, Option, Some, length, map}
+use Rattle.std.specs.Prelude.{◌≡◌, ◌++◌, List, [], None, Option, Some, length, map}
 use Rattle.sw_net.specs.CellId.{CellId}
 use Rattle.sw_net.specs.CellId.TheVariants.{Node, Switch}
 use Rattle.sw_config.specs.Entries.{Declaration}
@@ -27,9 +27,9 @@ ArePartsOf d s parts = AllZip (IsPartOf d s) (cells_of d) parts
 -- None: some step is refused, or the network is not locked up in the end
 abbrev pub TellsLocked : Declaration → List Step → Option (List Part) → Type 0
 TellsLocked d steps (Some parts) =
-    (s : State) × Ends (network_of d) (empty (network_of d)) steps (Made (length steps)) s × IsLockedUp (network_of d) s × ArePartsOf d s parts
+    (s : State) × Ends (network_of d) [] (empty (network_of d)) steps (Made (length steps)) s × IsLockedUp (network_of d) s × ArePartsOf d s parts
 TellsLocked d steps None =
-    (s : State) × (o : ReplayEnd) × Ends (network_of d) (empty (network_of d)) steps o s × (o ≡ Made (length steps) → IsLockedUp (network_of d) s → ⊥)
+    (s : State) × (o : ReplayEnd) × Ends (network_of d) [] (empty (network_of d)) steps o s × (o ≡ Made (length steps) → IsLockedUp (network_of d) s → ⊥)
 
 -- ---- the same of a network's cells, in each state that they are the parts of
 

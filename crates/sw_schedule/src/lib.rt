@@ -4,6 +4,7 @@
 
 mod cargo;
 pub mod laws;
+mod limited_step;
 mod line;
 mod locked_up;
 mod made_steps;
@@ -19,6 +20,7 @@ pub mod text_laws;
 mod writing;
 mod written_line;
 
+pub use limited_step::make_step;
 pub use locked_up::{cells, locked_up_parts};
 pub use names::MAX_COUNT;
 pub use replayed::{ReplayEnd, Replayed, StepRefusal};
@@ -28,7 +30,7 @@ pub use schedule_entry::ScheduleEntry;
 pub use sw_load::MAX_CARGO;
 pub use sw_machine::Step;
 pub use sw_net::{
-    ASKED_BY_FCT, CellId, Input, Net, NetFault, NodePart, Part, PortPart, SwitchRoutes,
+    ASKED_BY_FCT, CellId, Input, Net, NetFault, NodePart, Part, PortPart, SwitchRoutes, Unanswered,
     declared_net,
 };
 pub use sw_topo::limits::MAX_NUMBER;

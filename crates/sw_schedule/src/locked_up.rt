@@ -4,7 +4,7 @@ ghost use Rattle.sw_net.specs.Places.{IsIn};
 ghost use Rattle.sw_net.specs.New.{IsNewNet};
 ghost use Rattle.sw_schedule.specs.Locked.{ArePartsOfNet, TellsLocked, cells_of};
 
-use crate::made_steps::make_all;
+use crate::made_steps::make_from_empty;
 use crate::replay_report::is_locked_up;
 use crate::replayed::ReplayEnd;
 use crate::schedule::Schedule;
@@ -55,7 +55,7 @@ fn parts_after(
 {
     // Tells that there are at most as many steps as a schedule may have.
     let _total = schedule.total();
-    let outcome = make_all(alloc, net, schedule.entries())?;
+    let outcome = make_from_empty(alloc, net, schedule.entries())?;
     match outcome {
         ReplayEnd::Made(_) => {
             if is_locked_up(net, net.undelivered()) {

@@ -9,6 +9,8 @@ pub enum StepRefusal {
     NotEnabled,
     /// It begins a packet that its flow does not declare.
     NotInFlow,
+    /// It begins a command for a node at which as many are unanswered then as its limit allows.
+    OverLimit,
 }
 
 /// How far the steps were made.

@@ -4,7 +4,7 @@ ghost use Rattle.sw_net.specs.New.{IsNewNet};
 ghost use Rattle.sw_schedule.specs.Replays.{IsReplayed};
 ghost use Rattle.sw_schedule.specs.Reports.{report_of};
 
-use crate::made_steps::make_all;
+use crate::made_steps::make_from_empty;
 use crate::replay_report::is_locked_up;
 use crate::replayed::Replayed;
 use crate::schedule::Schedule;
@@ -24,7 +24,7 @@ fn replay_on(
 {
     // Tells that there are at most as many steps as a schedule may have.
     let _total = schedule.total();
-    let outcome = make_all(alloc, net, schedule.entries())?;
+    let outcome = make_from_empty(alloc, net, schedule.entries())?;
     let undelivered = net.undelivered();
     let mut came_out = Vec::new(alloc);
     for n in 0..net.network().nodes() {
@@ -39,7 +39,8 @@ fn replay_on(
 }
 
 /// Makes the steps of the schedule one after another, from the empty network on, up to the first
-/// that is refused, and tells what holds then.
+/// that is refused, and tells what holds then. A step that would break a limit on unanswered
+/// commands is refused.
 ///
 /// # Errors
 ///

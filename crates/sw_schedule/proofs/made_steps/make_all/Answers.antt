@@ -44,8 +44,8 @@ returns-in-Refused-clause-ends c =
     let i = c.loop-entry.entry-index in
     let t = c.loop-entry-test.true in
     let parts = steps_at entries i (i + 1) e (omega arith) c.entry-item.is (omega arith) in
-    let ends = subst (λ (o : ReplayEnd). NetEnds w (replicate e.count e.step) o u) c.in-Refused.is c.in_ok-count.ensures.ends in
-    stopped_behind c.args.net.now w u c.loop-entry.invariant.network (steps_of entries) (steps_of (take i entries)) (replicate e.count e.step) (steps_of (drop (i + 1) entries)) c.loop-entry.before c.in-Refused.number c.in-Refused.refusal parts c.loop-entry.invariant.made ends
+    let ends = subst (λ (o : ReplayEnd). NetEnds w c.loop-entry.unanswered (replicate e.count e.step) o u c.make_entry.new.unanswered) c.in-Refused.is c.in_ok-count.ensures.ends in
+    stopped_behind c.args.net.now w u c.args.unanswered.now c.loop-entry.unanswered c.make_entry.new.unanswered c.loop-entry.invariant.network (steps_of entries) (steps_of (take i entries)) (replicate e.count e.step) (steps_of (drop (i + 1) entries)) c.loop-entry.before c.in-Refused.number c.in-Refused.refusal parts c.loop-entry.invariant.made ends
 
 pub loop-entry-preserved : goal.loop-entry-preserved
 loop-entry-preserved c =
@@ -56,7 +56,7 @@ loop-entry-preserved c =
     let i = c.loop-entry.entry-index in
     let t = c.loop-entry-test.true in
     let more = steps_more entries i e (omega arith) c.entry-item.is in
-    let ends = subst (λ (o : ReplayEnd). NetEnds w (replicate e.count e.step) o u) c.in-Made.is c.in_ok-count.ensures.ends in
+    let ends = subst (λ (o : ReplayEnd). NetEnds w c.loop-entry.unanswered (replicate e.count e.step) o u c.make_entry.new.unanswered) c.in-Made.is c.in_ok-count.ensures.ends in
     let some = subst (IsWithin e.count) c.in-Made.is c.in_ok-count.ensures.within in
     let size = length-replicate e.count e.step in
     let sum = length-append (steps_of (take i entries)) (replicate e.count e.step) in
@@ -64,7 +64,7 @@ loop-entry-preserved c =
     let before = c.loop-entry.invariant.within in
     record {
       network = c.in_ok-count.ensures.network ∙ c.loop-entry.invariant.network;
-      made = made_behind c.args.net.now w u c.loop-entry.invariant.network (steps_of (take (i + 1) entries)) (steps_of (take i entries)) (replicate e.count e.step) c.loop-entry.before c.in-Made.count more c.loop-entry.invariant.made ends;
+      made = made_behind c.args.net.now w u c.args.unanswered.now c.loop-entry.unanswered c.make_entry.new.unanswered c.loop-entry.invariant.network (steps_of (take (i + 1) entries)) (steps_of (take i entries)) (replicate e.count e.step) c.loop-entry.before c.in-Made.count more c.loop-entry.invariant.made ends;
       within = omega arith;
     }
 
@@ -73,4 +73,4 @@ returns-clause-ends c =
     let entries = c.args.entries.now in
     let least = c.loop-entry-test.false in
     let all = take_all c.loop-entry.entry-index entries (omega arith) in
-    subst (λ (l : List Repeated). NetEnds c.args.net.now (steps_of l) (Made c.loop-entry.before) c.loop-entry.net) all c.loop-entry.invariant.made
+    subst (λ (l : List Repeated). NetEnds c.args.net.now c.args.unanswered.now (steps_of l) (Made c.loop-entry.before) c.loop-entry.net c.loop-entry.unanswered) all c.loop-entry.invariant.made

@@ -7,5 +7,5 @@ use Rattle.sw_schedule.proofs.made_steps.make_times.Given as goal
 abbrev pub invariant-loop-made : goal.invariant-loop-made
 invariant-loop-made l = record {
   network : l.net.declared ≡ l.initial.net.declared;
-  made : NetEnds l.initial.net (replicate l.made (machine_step l.step)) (Made l.made) l.net;
+  made : NetEnds l.initial.net l.initial.unanswered (replicate l.made (machine_step l.step)) (Made l.made) l.net l.unanswered;
 }
