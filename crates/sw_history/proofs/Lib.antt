@@ -18,6 +18,7 @@ pub mod Way
 mod Turned
 mod Picked
 pub mod Ends
+pub mod Emptied
 pub mod IdleEmpty
 pub mod Steps
 pub mod Loop

@@ -10,7 +10,8 @@ use Rattle.sw_cell.specs.Places.{IsAt, IsDoneAt, machine_cell}
 use Rattle.sw_cell.specs.declared.fault.NetFault.{NetFault}
 use Rattle.sw_cell.specs.declared.fault.NetFault.TheVariants.{Memory, NotEnabled, NotInFlow}
 use Rattle.sw_cell.specs.declared.cell.CellId.{CellId}
-use Rattle.sw_history.proofs.Follows.{one_state_after, split_last}
+use Rattle.sw_history.proofs.Follows.{one_state_after}
+use Rattle.sw_load.proofs.Grown.{split_last}
 use Rattle.sw_history.specs.History.{HistoryView, IsNext, with_steps}
 use Rattle.sw_history.specs.Next.{IsIdle, MayFollow}
 use Rattle.sw_journal.specs.Adding.{AddsAt, IsAtCell, IsWithSteps}
