@@ -4,7 +4,7 @@ mod Counts
 pub mod Commands
 mod Idle
 mod Kept
-mod Zero
+pub mod Zero
 mod Watching
 pub mod Within
 mod CountedOn

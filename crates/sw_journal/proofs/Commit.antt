@@ -145,7 +145,7 @@ module _ (j : JournalView) (before : Me SeatChange View) (is : IsKept j before) 
   leads : Leads net is.true_view.state step t
   leads =
       let last = split_last net j.history step (empty net) t next.1.run in
-      let same = one_state_after net (packets_of j.load) j.history is.true_view.state last.0 is.true_view.history (record { run = last.1; in_order = is.true_view.history.in_order }) in
+      let same = one_state_after net (packets_of j.load) j.history is.true_view.state last.0 is.true_view.history (record { run = last.1; in_order = is.true_view.history.in_order; keeps = is.true_view.history.keeps }) in
       subst (λ (m : State). Leads net m step t) same last.2
 
   -- the numbers after the step

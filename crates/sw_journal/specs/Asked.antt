@@ -1,6 +1,6 @@
 -- What can be asked of a journal.
 use Rattle.std.specs.Prelude.{List, ℕ, ◌≡◌}
-use Rattle.sw_history.specs.Next.{MayFollow}
+use Rattle.sw_history.specs.Next.{AreKeptBack, MayFollow}
 use Rattle.sw_journal.specs.Record.{JournalView, LeadsTo}
 use Rattle.sw_load.specs.History.{IsWhole, packets_of}
 use Rattle.sw_machine.specs.Packets.{Packet}
@@ -30,3 +30,11 @@ IsStill j = (step : Step) → MayFollow (network_of j.declared) (packets_of j.lo
 pub record IsStuck (j : JournalView) : Type 0 where
   pub still : IsStill j
   pub locked_up : (s : State) → LeadsTo j s → IsLockedUp (network_of j.declared) s
+
+-- no step may be the next and nothing is undelivered, while something of the load is not begun: the next packet of each node that has one is kept
+-- back by the limit on unanswered commands
+pub record IsWaiting (j : JournalView) : Type 0 where
+  pub not_whole : IsWhole (network_of j.declared) (packets_of j.load) j.history → ⊥
+  pub still : IsStill j
+  pub delivered : IsUndelivered j 0
+  pub kept_back : (s : State) → LeadsTo j s → AreKeptBack (network_of j.declared) (packets_of j.load) j.history s

@@ -1,7 +1,7 @@
 //! What can be asked of a journal.
 ghost use Rattle.std.specs.Prelude.{◌≡◌, ◌↔◌, ◌<◌, ◌*◌, IfOk, IsSome, IsTrue, Some, length, slice_get, slice_set};
 ghost use Rattle.sw_history.specs.Next.{IsIdle, MayFollow};
-ghost use Rattle.sw_journal.specs.Asked.{BroughtOut, IsDrained, IsStuck, IsStill, IsUndelivered};
+ghost use Rattle.sw_journal.specs.Asked.{BroughtOut, IsDrained, IsStuck, IsStill, IsUndelivered, IsWaiting};
 ghost use Rattle.sw_journal.specs.Cells.{end_numbers};
 ghost use Rattle.sw_journal.specs.Record.{Declares, IsTrueView, with_marks};
 ghost use Rattle.sw_load.specs.History.{IsWhole, packets_of};
@@ -106,6 +106,23 @@ impl<'n> Journal<'n> {
         ensures { IsTrue result ↔ IsStuck self.now }
     {
         self.undelivered() != 0 && self.is_still()
+    }
+
+    /// Whether no step may be the next and nothing is undelivered, while something of the load is not
+    /// begun: the next packet of each node that has one is kept back by the limit on unanswered commands
+    /// of the node where it ends.
+    pub fn is_waiting(&self) -> bool
+        ensures { IsTrue result ↔ IsWaiting self.now }
+    {
+        // Names the network and the load, which are sound by the history's type.
+        let _network = self.history.network();
+        if self.history.is_whole() {
+            return false;
+        }
+        if self.undelivered() != 0 {
+            return false;
+        }
+        self.is_still()
     }
 
     /// The history.
