@@ -8,7 +8,7 @@ use Rattle.sw_history.proofs.Emptied.{kept_back}
 use Rattle.sw_history.proofs.Follows.{follows_where_possible, no_begin_keeps, no_begin_next}
 use Rattle.sw_history.specs.Next.{IsIdle, MayFollow, begin_of}
 use Rattle.sw_journal.proofs.Commit.{possible_of}
-use Rattle.sw_journal.specs.Asked.{IsStill, IsStuck, IsUndelivered, IsWaiting}
+use Rattle.sw_journal.specs.Asked.{IsKeptBack, IsStill, IsStuck, IsUndelivered, IsWaiting}
 use Rattle.sw_journal.specs.Marks.{IsTrueMark}
 use Rattle.sw_journal.specs.Record.{JournalView, IsTrueView, IsKept, with_marks}
 use Rattle.sw_config.specs.Valid.{IsValid}
@@ -113,10 +113,8 @@ stuck_left j count is left stuck =
 
 -- ---- a journal that waits for ever
 
-pub waiting_by : (j : JournalView) → IsValid j.declared → AreDeclared j.declared j.load → (count : ℕ) → IsUndelivered j count → count ≡ 0 → (IsWhole (network_of j.declared) (packets_of j.load) j.history → ⊥) → IsStill j → IsWaiting j
-waiting_by j valid declared count left none not_whole still = record {
-  not_whole = not_whole;
-  still = still;
-  delivered = subst (IsUndelivered j) none left;
-  kept_back = λ s leads. kept_back j.declared valid j.load j.history s leads (sym (left s leads) ∙ none) declared (λ n one. still (begin_of one.packet) one.follows);
-}
+pub waiting_by : (j : JournalView) (count : ℕ) → IsUndelivered j count → count ≡ 0 → (IsWhole (network_of j.declared) (packets_of j.load) j.history → ⊥) → IsStill j → IsWaiting j
+waiting_by j count left none not_whole still = record { not_whole = not_whole; still = still; delivered = subst (IsUndelivered j) none left }
+
+pub kept_back_by : (j : JournalView) → IsValid j.declared → AreDeclared j.declared j.load → (count : ℕ) → IsUndelivered j count → count ≡ 0 → IsStill j → IsKeptBack j
+kept_back_by j valid declared count left none still s leads = kept_back j.declared valid j.load j.history s leads (sym (left s leads) ∙ none) declared (λ n one. still (begin_of one.packet) one.follows)
