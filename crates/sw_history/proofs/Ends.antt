@@ -1,60 +1,37 @@
 -- Where nothing more can happen, the load is sent.
-use Rattle.std.proofs.Common.{List, Some, [], ap, append-nil, arith, count_by, length, length-append, map, refl, subst, suc, sym, true, zero, ⊎_elim, ℕ, ◌*◌, ◌+◌, ◌++◌, ◌<◌, ◌∙◌, ◌∷◌, ◌≡◌, ◌≤◌}
+use Rattle.std.proofs.Common.{List, Some, [], ap, arith, count_by, length, refl, subst, sym, true, ⊎_elim, ℕ, ◌*◌, ◌+◌, ◌∙◌, ◌∷◌, ◌≡◌, ◌≤◌}
 use Rattle.std.proofs.Math.Nat.{mul-le-mul_left}
-use Rattle.std.proofs.lemmas.Bool.{cases_lt}
-use Rattle.std.proofs.lemmas.List.{nil_from_length}
-use Rattle.std.proofs.lemmas.List.Sums.{count_by-le-length, sum_by-cons}
 use Rattle.std.specs.Prelude.{slice_get, sum_by}
 use Rattle.sw_net.proofs.CellNetwork.{nodes_are}
-use Rattle.sw_char.specs.declared.nchar.NChar.TheVariants.{Data, Eop}
 use Rattle.sw_history.proofs.Begun.{declared_at}
 use Rattle.sw_history.specs.Drained.{IsDrained, most_moves, most_moves_of}
+use Rattle.sw_history.proofs.Emptied.{kept_back, none_kept_back}
 use Rattle.sw_net.proofs.Alike.{same_undelivered}
-use Rattle.sw_history.proofs.Commands.{limit_is, one_more}
 use Rattle.sw_history.proofs.Follows.{follows_where_possible}
 use Rattle.sw_history.proofs.Within.{none_within}
 use Rattle.sw_history.specs.Next.{begin_of}
 use Rattle.sw_history.specs.Unanswered.{Counts, within_limit}
 use Rattle.sw_history.specs.Way.{IsOnTheWay, NoneIsReady, NoneMayBegin}
 use Rattle.sw_load.proofs.Fronts.{histories_end, no-more}
-use Rattle.sw_load.proofs.Grown.{slice_get-behind}
-use Rattle.sw_load.specs.History.{BeginsNext, IsWhole, KeepsLimit, next_packet, packets_at, packets_of}
+use Rattle.sw_load.specs.History.{IsWhole, next_packet, packets_at, packets_of}
 use Rattle.sw_load.specs.Limit.{enough_limit}
 use Rattle.sw_load.specs.Laws.{AreDeclared}
-use Rattle.sw_machine.proofs.Declares.{declared_are_declared}
 use Rattle.sw_load.specs.Load.{LoadEntry, packet_count}
 use Rattle.sw_machine.proofs.Balance.{count_cons}
 use Rattle.sw_machine.proofs.RunLists.{all_moves}
 use Rattle.sw_machine.specs.Begun.{Begun, RunOf, beginnings, length_with_reply, moves}
-use Rattle.sw_machine.proofs.Limits.{nothing_is_unanswered}
 use Rattle.sw_machine.specs.Certificate.{Certificate, IsAccepted}
 use Rattle.sw_machine.specs.DeadlockFreedom.{IsDeadlockFreeWithinLimits}
-use Rattle.sw_machine.specs.Limits.{is_command_to}
-use Rattle.sw_machine.specs.Network.{form}
-use Rattle.sw_machine.specs.Owing.{length_pending, PendingReply, reply_packet}
 use Rattle.sw_machine.specs.Runs.{total, undelivered}
-use Rattle.sw_machine.specs.State.{State, after_begin, empty}
-use Rattle.sw_machine.specs.Steps.{Accept, Arrive, Begin, Drop, Emit, Fct, FctIn, Forward, Grant, IsPossible, Reply, Spill, Step, is_begin}
+use Rattle.sw_machine.specs.State.{State, empty}
+use Rattle.sw_machine.specs.Steps.{Accept, Arrive, Begin, Drop, Emit, Fct, FctIn, Forward, Grant, Reply, Spill, Step, is_begin}
 use Rattle.sw_machine.proofs.Flows.{some_at}
 use Rattle.sw_machine.proofs.DeclaredNetworks.{are_networks}
 use Rattle.sw_machine.specs.Model.{network_of}
 use Rattle.sw_net.specs.Asked.{IsQuietNet}
 use Rattle.sw_net.specs.Net.{IsNet, IsNetState, NetView}
 use Rattle.sw_route.specs.declared.look.Look.{Look}
-use Rattle.sw_config.proofs.Limits.{limit_at_least}
 use Rattle.sw_config.specs.Valid.{IsValid}
-
-total_zero : (f : ℕ → ℕ) (n c : ℕ) → total n f ≡ 0 → c < n → f c ≡ 0
-total_zero f zero c e lt = absurd (omega arith)
-total_zero f (suc n) c e lt = ⊎_elim
-    (λ small. total_zero f n c (omega arith) small)
-    (λ ge. let is : c ≡ n = omega arith in ap f is ∙ omega arith)
-    (cases_lt c n)
-
-none_pending : (ps : List PendingReply) → length_pending ps ≡ 0 → ps ≡ []
-none_pending [] e = refl
-none_pending (r ∷ ps) e =
-    absurd (let s = sum_by-cons (λ (q : PendingReply). length (reply_packet q)) r ps in let a = length-append (map Data (r.address ++ r.cargo)) (Eop ∷ []) in omega arith)
 
 -- each step but the beginnings begins nothing
 beginnings_are : (steps : List Step) → length (beginnings steps) ≡ count_by is_begin steps
@@ -116,53 +93,10 @@ module _ {R A : Type 0} (load : List LoadEntry) (v : NetView R A) (valid : IsVal
     pub is_empty : (s : State) → IsNetState v s → undelivered (network_of v.declared) s ≡ 0
     is_empty s k = same_undelivered answer ports v sound s way.state k way.in_net ∙ state_is_empty
 
-    -- where nothing is unanswered, the next packet is within the limit
-    keeps_next : (b : Begun) → ((network_of v.declared).flow b.flow).to < (network_of v.declared).nodes → KeepsLimit (network_of v.declared) steps way.state (begin_of b)
-    keeps_next b lt limit came has out =
-        let net = network_of v.declared in
-        let n = (net.flow b.flow).to in
-        let zero_is = nothing_is_unanswered net cert (are_networks v.declared valid) acc steps way.state (way.history).run state_is_empty n lt came out in
-        let least = limit_at_least v.declared valid n limit (sym (limit_is v.declared valid n) ∙ has) in
-        let more = one_more v.declared valid steps b.flow b.cargo b.end n in
-        let few = count_by-le-length (is_command_to net n) (b ∷ []) in
-        let one = count_cons (is_command_to net n) b [] in
-        omega arith
-
-    -- a packet that is left could be begun
-    none_left : (n : ℕ) (b : Begun) → next_packet (network_of v.declared) (packets_of load) steps n ≡ Some b → ⊥
-    none_left n b at =
-        let net = network_of v.declared in
-        let ok = are_networks v.declared valid in
-        let s = way.state in
-        let here = declared_at v.declared load declared n (length (packets_at net n (beginnings steps))) b at in
-        let packet = (declared_are_declared v.declared b.flow b.cargo).0 here.packet in
-        let small = packet.declared in
-        let flows = ok.flows_declared in
-        let ends = ok.flow_ends b.flow (omega arith) in
-        let zero_is = state_is_empty in
-        let m = (net.flow b.flow).from in
-        let idle = total_zero (λ i. length (s.to_send i) + length_pending (s.pending i)) net.nodes m (omega arith) ends.0 in
-        let t = after_begin s m (form net b.flow 0 b.cargo b.end) in
-        let possible : IsPossible net s (begin_of b) = (
-          t,
-          record {
-            declared = packet;
-            sends_nothing = nil_from_length (s.to_send m) (omega arith);
-            none_pending = none_pending (s.pending m) (omega arith);
-            after = refl;
-          },
-        ) in
-        let next : BeginsNext net (packets_of load) steps (begin_of b) = ap (next_packet net (packets_of load) steps) here.from ∙ at in
-        none n (record { packet = b; from = here.from; follows = (follows_where_possible net (packets_of load) steps s way.history (begin_of b)).1 (possible, next, keeps_next b ends.1) })
-
-    whole_by : (n : ℕ) (rest : List Begun) → packets_at (network_of v.declared) n (packets_of load) ≡ packets_at (network_of v.declared) n (beginnings steps) ++ rest → packets_at (network_of v.declared) n (beginnings steps) ≡ packets_at (network_of v.declared) n (packets_of load)
-    whole_by n [] e = sym (e ∙ append-nil (packets_at (network_of v.declared) n (beginnings steps)))
-    whole_by n (b ∷ rest) e =
-        let xs = packets_at (network_of v.declared) n (beginnings steps) in
-        absurd (none_left n b (ap (λ l. slice_get l (length xs)) e ∙ slice_get-behind xs (b ∷ rest)))
-
     all_begun : IsWhole (network_of v.declared) (packets_of load) steps
-    all_begun n = let front = (way.history).in_order n in whole_by n front.0 front.1
+    all_begun =
+        none_kept_back v.declared valid load steps way.state way.history state_is_empty cert acc
+        (kept_back v.declared valid load steps way.state way.history state_is_empty declared none)
 
     begins : (begun : List Begun) × RunOf (network_of v.declared) (empty (network_of v.declared)) steps begun way.state
     begins = free.each_run_is_counted steps way.state (way.history).run

@@ -4,7 +4,7 @@ mod Counts
 pub mod Commands
 mod Idle
 mod Kept
-mod Zero
+pub mod Zero
 mod Watching
 pub mod Within
 mod CountedOn
@@ -18,6 +18,7 @@ pub mod Way
 mod Turned
 mod Picked
 pub mod Ends
+pub mod Emptied
 pub mod IdleEmpty
 pub mod Steps
 pub mod Loop

@@ -1,6 +1,6 @@
 -- What may come next in the history of a load.
 use Rattle.std.specs.Prelude.{List, None, Option, Some, [], ℕ, ◌++◌, ◌∷◌, ◌≡◌}
-use Rattle.sw_load.specs.History.{IsHistory}
+use Rattle.sw_load.specs.History.{IsHistory, KeepsLimit, next_packet}
 use Rattle.sw_machine.specs.Begun.{Begun}
 use Rattle.sw_machine.specs.Network.{Network}
 use Rattle.sw_machine.specs.Parts.{link_end_of}
@@ -29,3 +29,7 @@ pub record BeginsOne (net : Network) (packets : List Begun) (steps : List Step) 
   pub packet : Begun
   pub from : (net.flow packet.flow).from ≡ n
   pub follows : MayFollow net packets steps (Begin packet.flow packet.cargo packet.end)
+
+-- in state s after these steps the next packet of each node that has one is kept back by the limit on unanswered commands
+abbrev pub AreKeptBack : Network → List Begun → List Step → State → Type 0
+AreKeptBack net packets steps s = (n : ℕ) (b : Begun) → next_packet net packets steps n ≡ Some b → KeepsLimit net steps s (begin_of b) → ⊥

@@ -10,7 +10,8 @@ use Rattle.sw_cell.specs.Places.{IsAt, IsDoneAt, machine_cell}
 use Rattle.sw_cell.specs.declared.fault.NetFault.{NetFault}
 use Rattle.sw_cell.specs.declared.fault.NetFault.TheVariants.{Memory, NotEnabled, NotInFlow}
 use Rattle.sw_cell.specs.declared.cell.CellId.{CellId}
-use Rattle.sw_history.proofs.Follows.{one_state_after, split_last}
+use Rattle.sw_history.proofs.Follows.{one_state_after}
+use Rattle.sw_load.proofs.Grown.{split_last}
 use Rattle.sw_history.specs.History.{HistoryView, IsNext, with_steps}
 use Rattle.sw_history.specs.Next.{IsIdle, MayFollow}
 use Rattle.sw_journal.specs.Adding.{AddsAt, IsAtCell, IsWithSteps}
@@ -144,7 +145,7 @@ module _ (j : JournalView) (before : Me SeatChange View) (is : IsKept j before) 
   leads : Leads net is.true_view.state step t
   leads =
       let last = split_last net j.history step (empty net) t next.1.run in
-      let same = one_state_after net (packets_of j.load) j.history is.true_view.state last.0 is.true_view.history (record { run = last.1; in_order = is.true_view.history.in_order }) in
+      let same = one_state_after net (packets_of j.load) j.history is.true_view.state last.0 is.true_view.history (record { run = last.1; in_order = is.true_view.history.in_order; keeps = is.true_view.history.keeps }) in
       subst (λ (m : State). Leads net m step t) same last.2
 
   -- the numbers after the step

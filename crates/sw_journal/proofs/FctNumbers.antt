@@ -112,7 +112,7 @@ decided j ok cell now c n is =
       λ h.
           let room : 8 ≤ n.room = h.0 in
           let few : n.outstanding ≤ 48 = h.1 in
-          (ends, follows.1 ((after_fct s c, record { in_net = there; room = omega (arith, room, room_is); few = omega (arith, few, outstanding_is); after = refl }), tt)),
+          (ends, follows.1 ((after_fct s c, record { in_net = there; room = omega (arith, room, room_is); few = omega (arith, few, outstanding_is); after = refl }), tt, tt)),
     )
 
 pub known : OfNowCells HasNumbers

@@ -4,13 +4,16 @@ use Rattle.atomic_table.specs.Table.{Me}
 use Rattle.std.proofs.lemmas.Bool.{eq-eqb, false≢true, ne_eqb}
 use Rattle.std.proofs.lemmas.List.{length-set}
 use Rattle.std.specs.Prelude.{nat_eq, slice_get, slice_set}
-use Rattle.sw_history.proofs.Follows.{follows_where_possible, no_begin_next}
-use Rattle.sw_history.specs.Next.{IsIdle, MayFollow}
+use Rattle.sw_history.proofs.Emptied.{kept_back}
+use Rattle.sw_history.proofs.Follows.{follows_where_possible, no_begin_keeps, no_begin_next}
+use Rattle.sw_history.specs.Next.{IsIdle, MayFollow, begin_of}
 use Rattle.sw_journal.proofs.Commit.{possible_of}
-use Rattle.sw_journal.specs.Asked.{IsStill, IsStuck, IsUndelivered}
+use Rattle.sw_journal.specs.Asked.{IsKeptBack, IsStill, IsStuck, IsUndelivered, IsWaiting}
 use Rattle.sw_journal.specs.Marks.{IsTrueMark}
 use Rattle.sw_journal.specs.Record.{JournalView, IsTrueView, IsKept, with_marks}
-use Rattle.sw_load.specs.History.{packets_of}
+use Rattle.sw_config.specs.Valid.{IsValid}
+use Rattle.sw_load.specs.History.{IsWhole, packets_of}
+use Rattle.sw_load.specs.Laws.{AreDeclared}
 use Rattle.sw_machine.proofs.Parts.{link_ends}
 use Rattle.sw_machine.specs.Begun.{Begun}
 use Rattle.sw_machine.specs.Network.{IsNetwork, Network}
@@ -97,7 +100,7 @@ pub stuck_by : (j : JournalView) (count : ℕ) → IsUndelivered j count → (co
 stuck_by j count left some still = record {
   still = still;
   locked_up = λ s leads. record {
-    quiet = λ step none p. still step ((follows_where_possible (network_of j.declared) (packets_of j.load) j.history s leads step).1 (p, no_begin_next (network_of j.declared) (packets_of j.load) j.history step none));
+    quiet = λ step none p. still step ((follows_where_possible (network_of j.declared) (packets_of j.load) j.history s leads step).1 (p, no_begin_next (network_of j.declared) (packets_of j.load) j.history step none, no_begin_keeps (network_of j.declared) j.history s step none));
     holds = (let here = left s leads in let lt = some_left count some in omega (arith, here, lt));
   };
 }
@@ -107,3 +110,11 @@ stuck_left j count is left stuck =
     let here = left is.state is.history in
     let holds = (stuck.locked_up is.state is.history).holds in
     left_some count (omega (arith, here, holds))
+
+-- ---- a journal that waits for ever
+
+pub waiting_by : (j : JournalView) (count : ℕ) → IsUndelivered j count → count ≡ 0 → (IsWhole (network_of j.declared) (packets_of j.load) j.history → ⊥) → IsStill j → IsWaiting j
+waiting_by j count left none not_whole still = record { not_whole = not_whole; still = still; delivered = subst (IsUndelivered j) none left }
+
+pub kept_back_by : (j : JournalView) → IsValid j.declared → AreDeclared j.declared j.load → (count : ℕ) → IsUndelivered j count → count ≡ 0 → IsStill j → IsKeptBack j
+kept_back_by j valid declared count left none still s leads = kept_back j.declared valid j.load j.history s leads (sym (left s leads) ∙ none) declared (λ n one. still (begin_of one.packet) one.follows)

@@ -9,3 +9,4 @@ mod Looked
 mod Chosen
 pub use Rattle.sw_history.proofs.Follows
 pub use Rattle.sw_net.proofs.Policies
+pub use Rattle.sw_history.proofs.Emptied

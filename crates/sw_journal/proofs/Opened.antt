@@ -16,7 +16,8 @@ use Rattle.sw_journal.specs.Cells.{all_known, same_cell}
 use Rattle.sw_journal.specs.Opening.{numbered_of}
 use Rattle.sw_journal.specs.Record.{JournalView, IsKept}
 use Rattle.sw_graph.proofs.Ranges.{range_more}
-use Rattle.sw_load.specs.History.{IsHistory, packets_at, packets_of}
+use Rattle.sw_history.proofs.Zero.{new_history}
+use Rattle.sw_load.specs.History.{IsHistory, packets_of}
 use Rattle.sw_load.specs.Load.{LoadEntry}
 use Rattle.sw_machine.specs.Network.{Cell, Network}
 use Rattle.sw_machine.specs.State.{State, empty}
@@ -109,7 +110,7 @@ kept_first name d h limit n marks me valid count declared steps none seat =
       true_view = record {
         network = are_networks d valid;
         state = empty net;
-        history = record { run = refl; in_order = λ m. (packets_at net m (packets_of h.load), refl) };
+        history = new_history d h.load;
         within = omega arith;
         places = length-replicate net.channels None;
         true_marks = λ e k at. absurd (no_mark net.channels e k at);
@@ -126,5 +127,5 @@ pub state_first : {R A : Type 0} (h : HistoryView) (net : NetView R A) → net.d
 state_first h net declared none reached =
     let n = network_of h.declared in
     let packets = packets_of h.load in
-    let leads = subst (λ (steps : List Step). IsHistory n packets steps (empty n)) (sym none) (record { run = refl; in_order = λ m. (packets_at n m packets, refl) }) in
+    let leads = subst (λ (steps : List Step). IsHistory n packets steps (empty n)) (sym none) (new_history h.declared h.load) in
     subst (λ (d : Declaration). IsNetState net (empty (network_of d))) (sym declared) (reached (empty n) leads)

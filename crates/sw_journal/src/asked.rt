@@ -1,7 +1,7 @@
 //! What can be asked of a journal.
 ghost use Rattle.std.specs.Prelude.{◌≡◌, ◌↔◌, ◌<◌, ◌*◌, IfOk, IsSome, IsTrue, Some, length, slice_get, slice_set};
 ghost use Rattle.sw_history.specs.Next.{IsIdle, MayFollow};
-ghost use Rattle.sw_journal.specs.Asked.{BroughtOut, IsDrained, IsStuck, IsStill, IsUndelivered};
+ghost use Rattle.sw_journal.specs.Asked.{BroughtOut, IsDrained, IsKeptBack, IsOwed, IsStuck, IsStill, IsUndelivered, IsWaiting};
 ghost use Rattle.sw_journal.specs.Cells.{end_numbers};
 ghost use Rattle.sw_journal.specs.Record.{Declares, IsTrueView, with_marks};
 ghost use Rattle.sw_load.specs.History.{IsWhole, packets_of};
@@ -70,6 +70,16 @@ impl<'n> Journal<'n> {
         self.history.net().undelivered()
     }
 
+    /// How many replies the node owes after the history. There are none at a node that is not there.
+    pub fn owed(&self, node: u16) -> usize
+        ensures { IsOwed self.now node result }
+    {
+        if node >= self.history.network().nodes() {
+            return 0;
+        }
+        self.history.net().owed(node)
+    }
+
     /// The whole packets that came out at the node in the history, in their order.
     ///
     /// # Errors
@@ -106,6 +116,24 @@ impl<'n> Journal<'n> {
         ensures { IsTrue result ↔ IsStuck self.now }
     {
         self.undelivered() != 0 && self.is_still()
+    }
+
+    /// Whether no step may be the next and nothing is undelivered, while something of the load is not
+    /// begun: the next packet of each node that has one is kept back by the limit on unanswered commands
+    /// of the node where it ends.
+    pub fn is_waiting(&self) -> bool
+        ensures waiting { IsTrue result ↔ IsWaiting self.now }
+        ensures kept_back { IsTrue result → IsKeptBack self.now }
+    {
+        // Names the network and the load, which are sound by the history's type.
+        let _network = self.history.network();
+        if self.history.is_whole() {
+            return false;
+        }
+        if self.undelivered() != 0 {
+            return false;
+        }
+        self.is_still()
     }
 
     /// The history.

@@ -2,6 +2,7 @@
 use Rattle.std.proofs.Common.{List, ap, arith, length, subst, sym, ℕ, ◌∙◌, ◌≡◌, ◌≤◌}
 use Rattle.sw_journal.proofs.Follows.{one_state_after}
 use Rattle.sw_journal.specs.Asked.{IsUndelivered}
+use Rattle.sw_journal.specs.Next.{AreKeptBack}
 use Rattle.sw_journal.specs.Record.{JournalView, LeadsTo}
 use Rattle.sw_load.specs.History.{IsHistory, IsWhole, packets_of}
 use Rattle.sw_load.specs.Load.{LoadEntry}
@@ -24,6 +25,11 @@ module _ (j : JournalView) (s : State) (o : Outcome) (leads : LeadsTo j s) (with
       whole = subst (IsWhole (network_of j.declared) (packets_of j.load)) steps whole;
       delivered = λ t to. sym none ∙ left t to;
     });
+    not_waiting = λ not_whole none still. goes_on.2 (record {
+      not_whole = λ whole. not_whole (subst (IsWhole (network_of j.declared) (packets_of j.load)) (sym steps) whole);
+      still = subst (NothingFollows (network_of j.declared) (packets_of j.load)) steps still;
+      delivered = λ t to. sym none ∙ left t to;
+    });
     not_stuck = λ locked still. goes_on.1 (record {
       still = subst (NothingFollows (network_of j.declared) (packets_of j.load)) steps still;
       locked_up = λ t to. subst (IsLockedUp (network_of j.declared)) (sym (one_state_after (network_of j.declared) (packets_of j.load) j.history s t leads to)) locked;
@@ -39,6 +45,14 @@ module _ (j : JournalView) (s : State) (o : Outcome) (leads : LeadsTo j s) (with
     undelivered = left s leads;
     drained = λ e. let t = subst (EndsBy j) e ends in (subst (IsWhole (network_of j.declared) (packets_of j.load)) (sym steps) t.whole, left s leads ∙ sym (t.delivered s leads));
     stuck = λ e. let t = subst (EndsBy j) e ends in (t.locked_up s leads, subst (NothingFollows (network_of j.declared) (packets_of j.load)) (sym steps) t.still);
+    waiting = λ e.
+        let t = subst (EndsBy j) e ends in
+        record {
+          delivered = left s leads ∙ sym ((t.0).delivered s leads);
+          not_whole = λ whole. (t.0).not_whole (subst (IsWhole (network_of j.declared) (packets_of j.load)) steps whole);
+          nothing_follows = subst (NothingFollows (network_of j.declared) (packets_of j.load)) (sym steps) (t.0).still;
+          kept_back = subst (λ l. AreKeptBack (network_of j.declared) (packets_of j.load) l s) (sym steps) (t.1 s leads);
+        };
     full = λ e. let t = subst (EndsBy j) e ends in (as_long ∙ t.0, unfinished t.1 left);
     memory = λ e. unfinished (subst (EndsBy j) e ends) left;
   }

@@ -12,7 +12,7 @@ use Rattle.sw_config.specs.Entries.{Declaration}
 use Rattle.sw_config.specs.Valid.{IsValid}
 use Rattle.sw_run.specs.Outcomes.{IsOutcome, came_out_of}
 use Rattle.sw_run.specs.declared.outcome.Outcome.{Outcome}
-use Rattle.sw_run.specs.declared.outcome.Stop.TheVariants.{Drained, JournalFull, Stuck}
+use Rattle.sw_run.specs.declared.outcome.Stop.TheVariants.{Drained, JournalFull, Stuck, Waiting}
 
 -- what holds of each outcome of each load over a valid network for which a certificate is accepted
 abbrev pub OfAcceptedOutcomes : (Declaration → List LoadEntry → ℕ → Outcome → Type 0) → Type 0
@@ -20,6 +20,10 @@ OfAcceptedOutcomes P = (d : Declaration) (cert : Certificate) → IsValid d → 
 
 abbrev pub IsNotStuck : Declaration → List LoadEntry → ℕ → Outcome → Type 0
 IsNotStuck d load limit o = o.stop ≡ Stuck → ⊥
+
+-- and none waits for ever
+abbrev pub IsNotWaiting : Declaration → List LoadEntry → ℕ → Outcome → Type 0
+IsNotWaiting d load limit o = o.stop ≡ Waiting → ⊥
 
 -- the flow is one of those of replies
 pub record IsOfReplies (net : Network) (flow : ℕ) : Type 0 where

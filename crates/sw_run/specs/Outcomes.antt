@@ -1,6 +1,6 @@
 -- What an outcome says.
 use Rattle.std.specs.Prelude.{List, Some, length, map, slice_get, ℕ, ◌≡◌, ◌≤◌}
-use Rattle.sw_journal.specs.Next.{MayFollow}
+use Rattle.sw_journal.specs.Next.{AreKeptBack, MayFollow}
 use Rattle.sw_load.specs.History.{IsHistory, IsWhole, packets_of}
 use Rattle.sw_load.specs.Load.{LoadEntry}
 use Rattle.sw_machine.specs.Begun.{Begun}
@@ -12,7 +12,7 @@ use Rattle.sw_machine.specs.Steps as machine
 use Rattle.sw_machine.specs.Model.{network_of}
 use Rattle.sw_config.specs.Entries.{Declaration}
 use Rattle.sw_run.specs.declared.outcome.Outcome.{Outcome}
-use Rattle.sw_run.specs.declared.outcome.Stop.TheVariants.{Drained, JournalFull, Memory, Stuck}
+use Rattle.sw_run.specs.declared.outcome.Stop.TheVariants.{Drained, JournalFull, Memory, Stuck, Waiting}
 
 -- the steps of the history, as steps of the machine
 abbrev pub steps_of : Outcome → List machine.Step
@@ -31,15 +31,25 @@ pub record AreOut (nodes : ℕ) (s : State) (lists : List (List Packet)) : Type 
   pub all_nodes : length lists ≡ nodes
   pub out : (n : ℕ) (packets : List Packet) → slice_get lists n ≡ Some packets → CameOut s n packets
 
--- The run is not over: something of the load is to be begun or delivered, and some step may follow or the network is not locked up.
+-- The run is not over: something of the load is to be begun or delivered, some step may follow or the network is not locked up, and some step may
+-- follow where something is to be begun and nothing is undelivered.
 pub record IsUnfinished (d : Declaration) (load : List LoadEntry) (o : Outcome) (s : State) : Type 0 where
   pub not_drained : IsWhole (network_of d) (packets_of load) (steps_of o) → o.undelivered ≡ 0 → ⊥
   pub not_stuck : IsLockedUp (network_of d) s → NothingFollows (network_of d) (packets_of load) (steps_of o) → ⊥
+  pub not_waiting : (IsWhole (network_of d) (packets_of load) (steps_of o) → ⊥) → o.undelivered ≡ 0 → NothingFollows (network_of d) (packets_of load) (steps_of o) → ⊥
+
+-- nothing is undelivered, something of the load was not begun, and no step may follow: each node's next packet is kept back by the limit
+pub record IsKeptWaiting (d : Declaration) (load : List LoadEntry) (o : Outcome) (s : State) : Type 0 where
+  pub delivered : o.undelivered ≡ 0
+  pub not_whole : IsWhole (network_of d) (packets_of load) (steps_of o) → ⊥
+  pub nothing_follows : NothingFollows (network_of d) (packets_of load) (steps_of o)
+  pub kept_back : AreKeptBack (network_of d) (packets_of load) (steps_of o) s
 
 -- The history is one of the load, no longer than the limit, and what the outcome tells is so in the state after it: what came out at each
 -- node, and how many characters are undelivered. Drained: the whole load was begun, and nothing is undelivered. Stuck: the network is locked
--- up, and no step may follow. JournalFull: the history is as long as the limit. Both that and Memory are told only of a run that is neither
--- drained nor stuck.
+-- up, and no step may follow. Waiting: nothing is undelivered, something of the load was not begun, and no step may follow, since the next packet
+-- of each node that has one is kept back by the limit on unanswered commands. JournalFull: the history is as long as the limit. Both that and
+-- Memory are told only of a run that is at none of these ends.
 pub record IsOutcome (d : Declaration) (load : List LoadEntry) (limit : ℕ) (o : Outcome) : Type 0 where
   pub state : State
   pub history : IsHistory (network_of d) (packets_of load) (steps_of o) state
@@ -48,5 +58,6 @@ pub record IsOutcome (d : Declaration) (load : List LoadEntry) (limit : ℕ) (o 
   pub undelivered : o.undelivered ≡ undelivered (network_of d) state
   pub drained : o.stop ≡ Drained → IsWhole (network_of d) (packets_of load) (steps_of o) × (o.undelivered ≡ 0)
   pub stuck : o.stop ≡ Stuck → IsLockedUp (network_of d) state × NothingFollows (network_of d) (packets_of load) (steps_of o)
+  pub waiting : o.stop ≡ Waiting → IsKeptWaiting d load o state
   pub full : o.stop ≡ JournalFull → (length o.history ≡ limit) × IsUnfinished d load o state
   pub memory : o.stop ≡ Memory → IsUnfinished d load o state

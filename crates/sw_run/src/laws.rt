@@ -1,13 +1,14 @@
 //! What holds of outcomes where a certificate is accepted for the network. These functions do nothing: each is the proof of what its clause says.
-ghost use Rattle.sw_run.specs.Laws.{HasOneCount, IsDeliveredWhereDrained, IsNotFull, IsNotStuck, OfAcceptedOutcomes};
+ghost use Rattle.sw_run.specs.Laws.{HasOneCount, IsDeliveredWhereDrained, IsNotFull, IsNotStuck, IsNotWaiting, OfAcceptedOutcomes};
 
 use sw_load::history_laws::accepted_histories_end;
 use sw_machine::laws::accepted_is_never_locked_up;
 use sw_machine::model_laws::declared_networks_are_networks;
 
-/// No run ends stuck.
+/// No run ends stuck, and none waits for ever.
 pub fn accepted_is_not_stuck()
-    ensures { OfAcceptedOutcomes IsNotStuck }
+    ensures stuck { OfAcceptedOutcomes IsNotStuck }
+    ensures waiting { OfAcceptedOutcomes IsNotWaiting }
 {
     accepted_is_never_locked_up();
     declared_networks_are_networks();

@@ -64,6 +64,25 @@ impl<'a, W: RunIdentity> LockedJournal<'a, W> {
         let _over = self.notes.end(Stop::Memory);
     }
 
+    /// The node that emits by the step, and how many replies it owes, if only so many commands may be
+    /// unanswered there.
+    #[inline(always)]
+    fn owing(&self, step: &Step) -> Option<(u16, usize)> {
+        let Step::Emit(node) = step else {
+            return None;
+        };
+        match self.network.limit_at(*node) {
+            Some(_) => Some((*node, self.journal.owed(*node))),
+            None => None,
+        }
+    }
+
+    /// Whether a reply was sent whole since this was asked last, at a node where only so many commands may
+    /// be unanswered: then nodes may begin packets that they could not.
+    pub(crate) fn has_settled(&mut self) -> bool {
+        self.notes.has_settled()
+    }
+
     /// Makes the step of this link end at the cell, if it may be the next.
     #[inline(always)]
     fn commit(
@@ -78,7 +97,11 @@ impl<'a, W: RunIdentity> LockedJournal<'a, W> {
         ensures arbiters { locked.new.arbiters.items ≡ locked.old.arbiters.items }
     {
         let sent = self.notes.sent_over(end, &step);
+        let owing = self.owing(&step);
         let made = self.journal.commit(alloc, &mut locked.cell, step);
+        if let Some((node, owed)) = owing {
+            self.notes.settles(self.journal.owed(node) < owed);
+        }
         self.notes.after(made, sent)
     }
 
@@ -239,6 +262,8 @@ fn why(journal: &Journal<'_>, stop: Option<Stop>, limit: usize) -> Stop
         Stop::Drained
     } else if journal.is_stuck() {
         Stop::Stuck
+    } else if journal.is_waiting() {
+        Stop::Waiting
     } else if matches!(stop, Some(Stop::JournalFull)) && journal.len() == limit {
         Stop::JournalFull
     } else {

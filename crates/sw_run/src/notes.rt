@@ -21,6 +21,8 @@ pub(crate) struct Notes {
     pub(crate) stop: Option<Stop>,
     /// By link end, to which link end the output was granted last that its input holds.
     outputs: Vec<LinkEnd>,
+    /// Whether a reply was sent whole, at a node where only so many commands may be unanswered.
+    settled: bool,
 }
 
 impl Notes {
@@ -32,6 +34,7 @@ impl Notes {
             awake: ends,
             stop: None,
             outputs,
+            settled: false,
         })
     }
 
@@ -41,6 +44,20 @@ impl Notes {
     {
         self.stop = Some(stop);
         Turn::Over
+    }
+
+    /// Notes that a reply was sent whole, if it was.
+    pub(crate) fn settles(&mut self, sent: bool) {
+        if sent {
+            self.settled = true;
+        }
+    }
+
+    /// Whether one was since this was asked last.
+    pub(crate) fn has_settled(&mut self) -> bool {
+        let settled = self.settled;
+        self.settled = false;
+        settled
     }
 
     /// One link end more has its mark at the present length. Where all have, nothing can go on.

@@ -10,6 +10,10 @@ pub enum Stop {
     Drained,
     /// Something is undelivered, and no step may follow.
     Stuck,
+    /// Nothing is undelivered, something of the load is not begun, and no step may follow: each packet
+    /// that a node is to begin next is kept back by the limit on unanswered commands of the node where it
+    /// ends.
+    Waiting,
     /// The history is as long as it may be, and the run is not at its end.
     JournalFull,
     /// Memory was wanted, for a step or for a worker. Clauses say that the run is at no other end, and

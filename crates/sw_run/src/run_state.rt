@@ -24,8 +24,9 @@ const MOST_STEPS: usize = 256;
 
 /// A cell, and whether it may have a step.
 ///
-/// The flag is raised where a step at another cell sent something over a link to this one, and
-/// where a turn of the cell ended before it was idle. It is lowered by the worker that has the
+/// The flag is raised where a step at another cell sent something over a link to this one, where a
+/// reply was sent whole that lets a node begin a packet, and where a turn of the cell ended before it
+/// was idle. It is lowered by the worker that has the
 /// cell's lock and the journal's, before it makes all steps that the cell has: what was sent until
 /// then is among what it finds.
 #[derive(Drop)]
@@ -187,6 +188,13 @@ impl<'j, 'a, W: RunIdentity> RunState<'j, 'a, W> {
         }
     }
 
+    /// Each node may have a step.
+    fn raise_nodes(&self) {
+        for slot in self.slots.iter().take(self.network.nodes() as usize) {
+            slot.raise();
+        }
+    }
+
     /// The step that was chosen, and then steps of the cell until it has none, or has made many.
     fn serve(
         &self,
@@ -205,6 +213,9 @@ impl<'j, 'a, W: RunIdentity> RunState<'j, 'a, W> {
                 break;
             }
             self.serve_ends(alloc, journal, locked, &mut made);
+        }
+        if journal.has_settled() {
+            self.raise_nodes();
         }
         made
     }
