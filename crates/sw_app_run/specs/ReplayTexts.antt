@@ -5,7 +5,7 @@ use Rattle.sw_config.specs.Entries.{Declaration}
 use Rattle.sw_schedule.specs.declared.replayed.ReplayEnd.{ReplayEnd}
 use Rattle.sw_schedule.specs.declared.replayed.ReplayEnd.TheVariants.{Made, Refused}
 use Rattle.sw_schedule.specs.declared.replayed.StepRefusal.{StepRefusal}
-use Rattle.sw_schedule.specs.declared.replayed.StepRefusal.TheVariants.{NotEnabled, NotInFlow}
+use Rattle.sw_schedule.specs.declared.replayed.StepRefusal.TheVariants.{NotEnabled, NotInFlow, OverLimit}
 use Rattle.sw_schedule.specs.Reports.{Report}
 use Rattle.sw_output.specs.PacketTexts.{by_node, node_line, packet_lines, undelivered_line}
 use Rattle.sw_output.specs.Lines.{line}
@@ -13,6 +13,7 @@ use Rattle.sw_output.specs.Lines.{line}
 abbrev pub refusal_text : StepRefusal → List ℕ
 refusal_text NotEnabled = codes "N1 NotEnabled"
 refusal_text NotInFlow = codes "N2 NotInFlow"
+refusal_text OverLimit = codes "N4 OverLimit"
 
 -- how many steps were made, or the number of the step that was refused, and why
 abbrev pub made_line : ReplayEnd → List ℕ

@@ -15,6 +15,7 @@ fn refusal_text(refusal: StepRefusal) -> &'static str
     match refusal {
         StepRefusal::NotEnabled => "N1 NotEnabled",
         StepRefusal::NotInFlow => "N2 NotInFlow",
+        StepRefusal::OverLimit => "N4 OverLimit",
     }
 }
 

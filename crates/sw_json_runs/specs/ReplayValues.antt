@@ -8,12 +8,13 @@ use Rattle.sw_schedule.specs.Reports.{Report}
 use Rattle.sw_schedule.specs.declared.replayed.ReplayEnd.{ReplayEnd}
 use Rattle.sw_schedule.specs.declared.replayed.ReplayEnd.TheVariants.{Made, Refused}
 use Rattle.sw_schedule.specs.declared.replayed.StepRefusal.{StepRefusal}
-use Rattle.sw_schedule.specs.declared.replayed.StepRefusal.TheVariants.{NotEnabled, NotInFlow}
+use Rattle.sw_schedule.specs.declared.replayed.StepRefusal.TheVariants.{NotEnabled, NotInFlow, OverLimit}
 use Rattle.sw_json_runs.specs.PacketValues.{by_node, node_value}
 
 abbrev pub refusal_code : StepRefusal → List ℕ
 refusal_code NotEnabled = codes "N1"
 refusal_code NotInFlow = codes "N2"
+refusal_code OverLimit = codes "N4"
 
 -- whether all steps were made
 abbrev pub replay_kind : ReplayEnd → List ℕ

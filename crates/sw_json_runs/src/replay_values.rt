@@ -27,6 +27,9 @@ fn told_end(end: ReplayEnd) -> (&'static str, u32, Member<'static>)
         ReplayEnd::Refused(number, StepRefusal::NotInFlow) => {
             ("refused", number, Member::Text("N2"))
         }
+        ReplayEnd::Refused(number, StepRefusal::OverLimit) => {
+            ("refused", number, Member::Text("N4"))
+        }
     }
 }
 

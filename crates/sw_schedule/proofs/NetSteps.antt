@@ -4,7 +4,7 @@ use Rattle.std.proofs.lemmas.List.{length-replicate, replicate-append-replicate}
 use Rattle.std.specs.Prelude.{IfOk}
 use Rattle.sw_machine.specs.Limits.{KeepsLimits}
 use Rattle.sw_machine.specs.Network.{Network}
-use Rattle.sw_machine.specs.State.{empty}
+use Rattle.sw_machine.specs.State.{State, empty}
 use Rattle.sw_machine.specs.Steps.{Begin, Step}
 use Rattle.sw_machine.specs.Model.{network_of}
 use Rattle.sw_net.proofs.CountedCommands.{counted_at_first}
@@ -146,12 +146,15 @@ made_front made others step number is =
 no_steps_keep : (net : Network) → KeepsLimits net []
 no_steps_keep net before after flow cargo end s e r = absurd (some_more before (Begin flow cargo end) after e)
 
+pub keeps_from_empty : (net : Network) (steps : List Step) (t : State) → RunWithin net [] (empty net) steps t → KeepsLimits net steps
+keeps_from_empty net steps t run = within_keeps net [] steps (empty net) t refl (no_steps_keep net) run
+
 pub replays_keep_limits : ReplaysKeepLimits
 replays_keep_limits d steps r is = by r.outcome is.ends
   where
     by : (o : ReplayEnd) → Ends (network_of d) [] (empty (network_of d)) steps o is.state → KeepsLimits (network_of d) (made_of steps o)
-    by (Made count) ends = within_keeps (network_of d) [] steps (empty (network_of d)) is.state refl (no_steps_keep (network_of d)) ends.1
+    by (Made count) ends = keeps_from_empty (network_of d) steps is.state ends.1
     by (Refused number refusal) ends =
-        let kept = within_keeps (network_of d) [] ends.made (empty (network_of d)) is.state refl (no_steps_keep (network_of d)) ends.run in
+        let kept = keeps_from_empty (network_of d) ends.made is.state ends.run in
         let front = ap (λ (l : List Step). take (number - 1) l) ends.parts ∙ made_front ends.made ends.others ends.step number ends.counted in
         subst (KeepsLimits (network_of d)) (sym front) kept

@@ -7,7 +7,7 @@ use Rattle.sw_config.specs.Entries.{Declaration}
 use Rattle.sw_machine.specs.StepValues.{machine_step}
 use Rattle.sw_machine.specs.declared.step.Step.{Step}
 use Rattle.sw_schedule.specs.declared.replayed.StepRefusal.{StepRefusal}
-use Rattle.sw_schedule.specs.declared.replayed.StepRefusal.TheVariants.{NotEnabled, NotInFlow}
+use Rattle.sw_schedule.specs.declared.replayed.StepRefusal.TheVariants.{NotEnabled, NotInFlow, OverLimit}
 use Rattle.sw_step_hints.specs.StepHints.{needs, refused, refused_words}
 
 -- of a step that is known
@@ -19,3 +19,4 @@ needs_if r d step known is told = subst (λ (t : Step). IfOk r (λ s. string_byt
 pub refused_is : (number : ℕ) (refusal : StepRefusal) → codes "step " ++ (decimal number ++ refused_words refusal) ≡ refused number refusal
 refused_is number NotEnabled = refl
 refused_is number NotInFlow = refl
+refused_is number OverLimit = refl

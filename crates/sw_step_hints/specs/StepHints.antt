@@ -2,7 +2,8 @@
 use Rattle.std.specs.Prelude.{◌≡◌, ℕ, suc, zero, ◌+◌, ◌-◌, nat_le, List, [], ◌∷◌, ◌++◌, Option, Some, None, Result, Ok, Err, String, codes, if◌then◌else◌, length, option_map, slice_get, string_bytes}
 use Rattle.std.specs.Fmt.{decimal}
 use Rattle.std.specs.declared.alloc.Global.{Global}
-use Rattle.sw_config.specs.Entries.{Declaration}
+use Rattle.sw_config.specs.Entries.{Declaration, FlowEntry, all_flows}
+use Rattle.sw_config.specs.Limits.{limit_at}
 use Rattle.sw_file.specs.Network.{network_text}
 use Rattle.sw_hints.specs.HintLines.{found_line, head_line, told}
 use Rattle.sw_machine.specs.Steps.{Step, Fct, FctIn, Arrive, Grant, Drop, Forward, Spill, Begin, Emit, Accept, Reply}
@@ -11,7 +12,7 @@ use Rattle.sw_output.specs.FlowTexts.{flow_name}
 use Rattle.sw_schedule.specs.declared.replayed.ReplayEnd.{ReplayEnd}
 use Rattle.sw_schedule.specs.declared.replayed.ReplayEnd.TheVariants.{Made, Refused}
 use Rattle.sw_schedule.specs.declared.replayed.StepRefusal.{StepRefusal}
-use Rattle.sw_schedule.specs.declared.replayed.StepRefusal.TheVariants.{NotEnabled, NotInFlow}
+use Rattle.sw_schedule.specs.declared.replayed.StepRefusal.TheVariants.{NotEnabled, NotInFlow, OverLimit}
 use Rattle.sw_schedule.specs.Replays.{IsReplayed}
 use Rattle.sw_schedule.specs.Reports.{Report}
 use Rattle.sw_schedule.specs.Schedule.{steps_of_text, text_lines}
@@ -38,20 +39,38 @@ needs d (Emit n) = codes "a character that " ++ (node_name d n ++ codes " has st
 needs d (Accept n) = codes "a character that came in at " ++ (node_name d n ++ codes ", which owes fewer replies than it has slots")
 needs d (Reply n) = codes "a reply that waits at " ++ (node_name d n ++ codes ", which sends nothing")
 
+-- what a further command needs, if the node has a limit
+abbrev pub limit_words : List ℕ → Option ℕ → List ℕ
+limit_words name None = []
+limit_words name (Some limit) = codes "a reply sent whole by " ++ (name ++ (codes ": as many commands to it are unanswered as its limit, " ++ decimal limit))
+
+-- the same of the node where the flow ends
+abbrev pub flow_limit_words : Declaration → Option FlowEntry → List ℕ
+flow_limit_words d None = []
+flow_limit_words d (Some f) = limit_words (node_name d f.to) (limit_at d f.to)
+
+-- the same of a step that begins a packet
+abbrev pub over_limit : Declaration → Step → List ℕ
+over_limit d (Begin f cargo end) = flow_limit_words d (slice_get (all_flows d) f)
+over_limit d step = []
+
 -- what is expected in place of the step, by why it is refused
 abbrev pub expected : Declaration → StepRefusal → Step → List ℕ
 expected d NotEnabled step = needs d step
 expected d NotInFlow step = codes "no command that the target would answer, or one whose reply goes where the flow's 'reply' says"
+expected d OverLimit step = over_limit d step
 
 -- why a step is refused, behind its number
 abbrev pub refused_words : StepRefusal → List ℕ
 refused_words NotEnabled = codes " is not possible when the steps before it are made"
 refused_words NotInFlow = codes " begins a packet that its flow does not declare"
+refused_words OverLimit = codes " begins a command more than may be unanswered"
 
 -- why it is refused
 abbrev pub refused : ℕ → StepRefusal → List ℕ
 refused number NotEnabled = about (codes "step ") number (codes " is not possible when the steps before it are made")
 refused number NotInFlow = about (codes "step ") number (codes " begins a packet that its flow does not declare")
+refused number OverLimit = about (codes "step ") number (codes " begins a command more than may be unanswered")
 
 -- ---- where it stands
 

@@ -1,8 +1,9 @@
 //! What a step needs, in words.
-ghost use Rattle.std.specs.Prelude.{◌≡◌, ◌++◌, IfOk, codes, string_bytes};
+ghost use Rattle.std.specs.Prelude.{◌≡◌, ◌++◌, IfOk, Some, codes, slice_get, string_bytes};
 ghost use Rattle.sw_hints.specs.HintLines.{told};
 ghost use Rattle.sw_machine.specs.StepValues.{machine_step};
-ghost use Rattle.sw_step_hints.specs.StepHints.{about, expected, needs, refused, refused_words};
+ghost use Rattle.sw_config.specs.Entries.{all_flows};
+ghost use Rattle.sw_step_hints.specs.StepHints.{about, expected, flow_limit_words, limit_words, needs, over_limit, refused, refused_words};
 
 use std::alloc::{AllocError, Global};
 use sw_config::Network;
@@ -110,6 +111,37 @@ fn needs(alloc: Global, network: &Network, step: &Step) -> Result<String, AllocE
     }
 }
 
+// What a further command needs of the node, which has that limit.
+fn limit_words(alloc: Global, name: &str, limit: u32) -> Result<String, AllocError>
+    ensures { IfOk result (λ s. string_bytes s ≡ limit_words name.now (Some limit)) }
+{
+    format!(in alloc; "a reply sent whole by {name}: as many commands to it are unanswered as its limit, {limit}")
+}
+
+// What a further command of the flow needs, if the node where it ends has a limit.
+fn flow_limit_words(alloc: Global, network: &Network, flow: u16) -> Result<String, AllocError>
+    ensures { IfOk result (λ s. string_bytes s ≡ flow_limit_words network.now (slice_get (all_flows network.now) flow)) }
+{
+    if flow >= network.flows() {
+        return Ok(String::new(alloc));
+    }
+    let node = network.flow(flow).to();
+    match network.limit_at(node) {
+        Some(limit) => limit_words(alloc, node_name(network, node), limit),
+        None => Ok(String::new(alloc)),
+    }
+}
+
+// What a step needs that would begin a command more than may be unanswered.
+fn over_limit(alloc: Global, network: &Network, step: &Step) -> Result<String, AllocError>
+    ensures { IfOk result (λ s. string_bytes s ≡ over_limit network.now (machine_step step.now)) }
+{
+    match step {
+        Step::Begin { flow, .. } => flow_limit_words(alloc, network, *flow),
+        _ => Ok(String::new(alloc)),
+    }
+}
+
 /// The line of what is expected in place of the step.
 ///
 /// # Errors
@@ -126,6 +158,9 @@ pub(crate) fn expected_line(
     match refusal {
         StepRefusal::NotEnabled => told(alloc, "expected", needs(alloc, network, step)?.as_bytes()),
         StepRefusal::NotInFlow => told(alloc, "expected", NOT_IN_FLOW.as_bytes()),
+        StepRefusal::OverLimit => {
+            told(alloc, "expected", over_limit(alloc, network, step)?.as_bytes())
+        }
     }
 }
 
@@ -136,6 +171,7 @@ fn refused_words(refusal: StepRefusal) -> &'static str
     match refusal {
         StepRefusal::NotEnabled => " is not possible when the steps before it are made",
         StepRefusal::NotInFlow => " begins a packet that its flow does not declare",
+        StepRefusal::OverLimit => " begins a command more than may be unanswered",
     }
 }
 

@@ -5,6 +5,7 @@ use Rattle.std.proofs.lemmas.Bool.{eq-eqb, eqb-true, false≢true}
 use Rattle.std.proofs.lemmas.List.{map_more, nil_from_length}
 use Rattle.sw_route.specs.declared.look.Route.{Route}
 use Rattle.sw_config.specs.Entries.{Declaration, FlowEntry, SwitchEntry}
+use Rattle.sw_config.specs.Limits.{HasNoLimits}
 use Rattle.sw_mend.proofs.Numbered.{at_number, grown_at}
 use Rattle.sw_mend.specs.Changes.{by_number, changed, changed_by_all, flow_after_all, flow_kept, made_at, route_after_all, switch_after, switch_after_all}
 use Rattle.sw_mend.specs.declared.change.Change.{Change}
@@ -50,11 +51,16 @@ one_more_change flows i old new lt before more = more ∙ ap (λ l. l ++ Without
 pub none_away : (d : Declaration) (flows : List ℕ) → (length flows == 0) ≡ true → flows ≡ never_answered d → IsTrue false ↔ IsFreeWithout d
 none_away d flows none are = (λ never. absurd cc, λ free. absurd (free.some (sym are ∙ nil_from_length flows (eqb-true (length flows) 0 none))))
 
-pub is_free_without : (d left : Declaration) (flows : List ℕ) (answer : Bool) → (length flows == 0) ≡ false → flows ≡ never_answered d
+-- nor is anything told where commands are limited
+pub limited_away : (d : Declaration) (b : Bool) → b ≡ false → IsTrue b ↔ HasNoLimits d → IsTrue false ↔ IsFreeWithout d
+limited_away d b is limits = (λ never. absurd cc, λ free. absurd (false≢true (sym is ∙ limits.1 free.unlimited)))
+
+pub is_free_without : (d left : Declaration) (flows : List ℕ) (answer : Bool) → (length flows == 0) ≡ false → HasNoLimits d → flows ≡ never_answered d
     → left ≡ changed_by_all d (map WithoutReply flows) → (IsTrue answer ↔ RoutedAndFree left) → IsTrue answer ↔ IsFreeWithout d
-is_free_without d left flows answer some are away free =
+is_free_without d left flows answer some unlimited are away free =
     let found : left ≡ without_replies d (never_answered d) = away ∙ all_away d flows ∙ ap (without_replies d) are in (
       λ h. record {
+        unlimited = unlimited;
         some = λ none. absurd (false≢true (sym some ∙ eq-eqb (length flows) 0 (ap length (are ∙ none))));
         free = subst RoutedAndFree found (free.0 h);
       },

@@ -4,3 +4,4 @@ mod NoReply
 mod Listings
 mod Taken
 pub mod Away
+mod NoLimits

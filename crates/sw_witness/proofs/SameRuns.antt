@@ -1,5 +1,5 @@
 -- Runs of two networks of the machine that differ in their flows alone.
-use Rattle.std.proofs.Common.{◌≡◌, ℕ, false, List, [], ◌∷◌, refl, ap, ◌∙◌}
+use Rattle.std.proofs.Common.{◌≡◌, ℕ, Bool, false, List, Option, [], ◌∷◌, refl, ap, ◌∙◌}
 use Rattle.sw_char.specs.declared.nchar.End.{End}
 use Rattle.sw_char.specs.declared.nchar.NChar.{NChar}
 use Rattle.sw_char.specs.declared.nchar.NChar.TheVariants.{Data, Eep, Eop}
@@ -11,19 +11,19 @@ use Rattle.sw_witness.specs.OtherFlows.{DeclaresAll, NeverLocksUp, OtherFlowsKee
 
 -- ---- steps that begin no packet
 
-module _ (net : Network) (count declared : ℕ) (flow : ℕ → Flow) where
-  drops : (s : State) (c switch : ℕ) (x : NChar) (rest : List NChar) (t : State) → Drops net s c switch x rest t → Drops (with_flows net count declared flow) s c switch x rest t
+module _ (net : Network) (count declared : ℕ) (flow : ℕ → Flow) (limited : ℕ → Bool) (limit : ℕ → Option ℕ) where
+  drops : (s : State) (c switch : ℕ) (x : NChar) (rest : List NChar) (t : State) → Drops net s c switch x rest t → Drops (with_flows net count declared flow limited limit) s c switch x rest t
   drops s c switch (Data h) rest t d = d
   drops s c switch Eop rest t d = d
   drops s c switch Eep rest t d = d
 
-  accepts : (s : State) (n : ℕ) (bytes : List ℕ) (x : NChar) (rest : List NChar) → after_accept net s n bytes x rest ≡ after_accept (with_flows net count declared flow) s n bytes x rest
+  accepts : (s : State) (n : ℕ) (bytes : List ℕ) (x : NChar) (rest : List NChar) → after_accept net s n bytes x rest ≡ after_accept (with_flows net count declared flow limited limit) s n bytes x rest
   accepts s n bytes (Data b) rest = refl
   accepts s n bytes Eop rest = refl
   accepts s n bytes Eep rest = refl
 
   -- they do not hang on the flows
-  pub is_step : (s : State) (step : Step) (t : State) → is_begin step ≡ false → Leads net s step t → Leads (with_flows net count declared flow) s step t
+  pub is_step : (s : State) (step : Step) (t : State) → is_begin step ≡ false → Leads net s step t → Leads (with_flows net count declared flow limited limit) s step t
   is_step s (Fct c) t plain h = record { in_net = h.in_net; room = h.room; few = h.few; after = h.after }
   is_step s (FctIn c) t plain h = record { in_net = h.in_net; remaining = h.remaining; under_way = h.under_way; after = h.after }
   is_step s (Arrive c) t plain h = record { in_net = h.in_net; first = h.first; rest = h.rest; on_wire = h.on_wire; after = h.after }
@@ -54,9 +54,9 @@ module _ (net : Network) (count declared : ℕ) (flow : ℕ → Flow) where
 
 -- ---- all steps
 
-module _ (net : Network) (count declared : ℕ) (flow : ℕ → Flow) (all : DeclaresAll net (with_flows net count declared flow)) where
+module _ (net : Network) (count declared : ℕ) (flow : ℕ → Flow) (limited : ℕ → Bool) (limit : ℕ → Option ℕ) (all : DeclaresAll net (with_flows net count declared flow limited limit)) where
   abbrev Other : Network
-  Other = with_flows net count declared flow
+  Other = with_flows net count declared flow limited limit
 
   begins : (s : State) (f : ℕ) (cargo : List ℕ) (end : End) (t : State) → Leads net s (Begin f cargo end) t → Leads Other s (Begin f cargo end) t
   begins s f cargo end t h =
@@ -70,17 +70,17 @@ module _ (net : Network) (count declared : ℕ) (flow : ℕ → Flow) (all : Dec
       }
 
   is_any_step : (s : State) (step : Step) (t : State) → Leads net s step t → Leads Other s step t
-  is_any_step s (Fct c) t h = is_step net count declared flow s (Fct c) t refl h
-  is_any_step s (FctIn c) t h = is_step net count declared flow s (FctIn c) t refl h
-  is_any_step s (Arrive c) t h = is_step net count declared flow s (Arrive c) t refl h
-  is_any_step s (Grant d c) t h = is_step net count declared flow s (Grant d c) t refl h
-  is_any_step s (Drop c) t h = is_step net count declared flow s (Drop c) t refl h
-  is_any_step s (Forward c) t h = is_step net count declared flow s (Forward c) t refl h
-  is_any_step s (Spill c) t h = is_step net count declared flow s (Spill c) t refl h
+  is_any_step s (Fct c) t h = is_step net count declared flow limited limit s (Fct c) t refl h
+  is_any_step s (FctIn c) t h = is_step net count declared flow limited limit s (FctIn c) t refl h
+  is_any_step s (Arrive c) t h = is_step net count declared flow limited limit s (Arrive c) t refl h
+  is_any_step s (Grant d c) t h = is_step net count declared flow limited limit s (Grant d c) t refl h
+  is_any_step s (Drop c) t h = is_step net count declared flow limited limit s (Drop c) t refl h
+  is_any_step s (Forward c) t h = is_step net count declared flow limited limit s (Forward c) t refl h
+  is_any_step s (Spill c) t h = is_step net count declared flow limited limit s (Spill c) t refl h
   is_any_step s (Begin f cargo end) t h = begins s f cargo end t h
-  is_any_step s (Emit n) t h = is_step net count declared flow s (Emit n) t refl h
-  is_any_step s (Accept n) t h = is_step net count declared flow s (Accept n) t refl h
-  is_any_step s (Reply n) t h = is_step net count declared flow s (Reply n) t refl h
+  is_any_step s (Emit n) t h = is_step net count declared flow limited limit s (Emit n) t refl h
+  is_any_step s (Accept n) t h = is_step net count declared flow limited limit s (Accept n) t refl h
+  is_any_step s (Reply n) t h = is_step net count declared flow limited limit s (Reply n) t refl h
 
   is_run : (steps : List Step) (s t : State) → Run net s steps t → Run Other s steps t
   is_run [] s t r = r
@@ -94,7 +94,7 @@ module _ (net : Network) (count declared : ℕ) (flow : ℕ → Flow) (all : Dec
 
   -- what is possible there but a beginning is possible here
   possible : (s : State) (step : Step) → is_begin step ≡ false → IsPossible Other s step → IsPossible net s step
-  possible s step plain p = (p.0, is_step Other net.flows net.declared_flows net.flow s step p.0 plain p.1)
+  possible s step plain p = (p.0, is_step Other net.flows net.declared_flows net.flow net.limited net.limit s step p.0 plain p.1)
 
   quiet : (s : State) → IsQuiet net s → IsQuiet Other s
   quiet s q step plain p = q step plain (possible s step plain p)
@@ -108,13 +108,13 @@ module _ (net : Network) (count declared : ℕ) (flow : ℕ → Flow) (all : Dec
     never_locked_up = λ s r locked. n.never_locked_up s (reached s r) (record { quiet = quiet s locked.quiet; holds = locked.holds });
     quiet_is_empty = λ s r q. n.quiet_is_empty s (reached s r) (quiet s q);
     nothing_is_dropped = λ s r c. (
-      λ p. (n.nothing_is_dropped s (reached s r) c).0 (p.0, is_step net count declared flow s (Drop c) p.0 refl p.1),
-      λ p. (n.nothing_is_dropped s (reached s r) c).1 (p.0, is_step net count declared flow s (Spill c) p.0 refl p.1),
+      λ p. (n.nothing_is_dropped s (reached s r) c).0 (p.0, is_step net count declared flow limited limit s (Drop c) p.0 refl p.1),
+      λ p. (n.nothing_is_dropped s (reached s r) c).1 (p.0, is_step net count declared flow limited limit s (Spill c) p.0 refl p.1),
     );
   }
 
 pub other_flows_keep_runs : OtherFlowsKeepRuns
-other_flows_keep_runs net count declared flow all = runs net count declared flow all
+other_flows_keep_runs net count declared flow limited limit all = runs net count declared flow limited limit all
 
 pub other_flows_keep_freedom : OtherFlowsKeepFreedom
-other_flows_keep_freedom net count declared flow all n = freedom net count declared flow all n
+other_flows_keep_freedom net count declared flow limited limit all n = freedom net count declared flow limited limit all n

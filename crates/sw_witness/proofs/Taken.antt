@@ -1,19 +1,24 @@
 -- A network without replies that can't happen, and the network itself.
 use Rattle.std.proofs.Common.{◌≡◌, ℕ, zero, suc, ◌+◌, Bool, true, false, List, [], ◌∷◌, ◌++◌, length, Option, Some, None, inl, inr, refl, sym, ap, ◌∙◌, subst, arith}
 use Rattle.std.specs.Prelude.{◌==◌, slice_get, if◌then◌else◌}
-use Rattle.std.specs.List.{AllByRecursion}
+use Rattle.std.specs.List.{All, AllByRecursion}
+use Rattle.std.specs.Option.{option_map_or}
+use Rattle.std.proofs.lemmas.List.Elements.{All-cons, All-head, All-tail}
 use Rattle.std.proofs.lemmas.Bool.{cases_Bool, eqb-true}
 use Rattle.std.proofs.lemmas.Option.{same_Some}
 use Rattle.sw_route.specs.declared.look.Route.{Route}
-use Rattle.sw_config.specs.Entries.{Declaration, FlowEntry, ReplyEntry, SwitchEntry, all_flows, reply_flows}
+use Rattle.sw_config.proofs.Limits.{no_limit_at}
+use Rattle.sw_config.specs.Entries.{Declaration, FlowEntry, NodeEntry, ReplyEntry, SwitchEntry, all_flows, reply_flows}
+use Rattle.sw_config.specs.Limits.{HasNoLimits, flow_outstanding, is_limited, limit_at}
 use Rattle.sw_config.specs.Valid.{IsValid}
+use Rattle.sw_machine.specs.Limits as machine
 use Rattle.sw_machine.specs.Network.{IsDeclared}
 use Rattle.sw_machine.proofs.Free.{is_deadlock_free}
 use Rattle.sw_mend.specs.Changes.{by_number, changed, flow_after, flow_kept, route_after, switch_after}
 use Rattle.sw_mend.specs.Laws.{ChangesKeepValid}
 use Rattle.sw_mend.specs.declared.change.Change.TheVariants.{WithoutReply}
 use Rattle.sw_machine.specs.Model.{flow_of, network_of, reply_number}
-use Rattle.sw_machine.specs.DeclaredPackets.{IsAnsweredRightly, IsDeclaredPacket, IsRightWay, left_bytes, reply_from}
+use Rattle.sw_machine.specs.DeclaredPackets.{IsAnsweredRightly, IsCommandIfLimited, IsDeclaredPacket, IsRightWay, left_bytes, reply_from}
 use Rattle.sw_machine.proofs.Declares.{declared_are_declared}
 use Rattle.sw_machine.proofs.Flows.{flow_at}
 use Rattle.sw_machine.proofs.DeclaredNetworks.{are_networks}
@@ -73,6 +78,11 @@ none_without : (gone : Bool) (way : Option (List ℕ)) (reply : Option ReplyEntr
 none_without true way reply none right = none_way way right
 none_without false way reply none right = none right
 
+-- where a flow is limited without its reply, it was so with it
+command_kept : (nodes : List NodeEntry) (gone : Bool) (f : FlowEntry) (cargo : List ℕ) → IsCommandIfLimited nodes f cargo → IsCommandIfLimited nodes (record f { reply = if gone then None else f.reply }) cargo
+command_kept nodes true f cargo command limited = absurd cc
+command_kept nodes false f cargo command limited = command limited
+
 kept_from : (gone n i : ℕ) (flows : List FlowEntry) (g : FlowEntry) → slice_get (by_number (flow_after (WithoutReply gone)) n flows) i ≡ Some g
     → (f : FlowEntry) × (slice_get flows i ≡ Some f) × (m : ℕ) × (flow_kept (WithoutReply gone) m f ≡ g)
 kept_from gone n i [] g here = absurd cc
@@ -103,6 +113,7 @@ module _ (d : Declaration) (gone : ℕ) where
       declared = kept_at gone 0 i i d.flows p.entry (omega arith) p.declared;
       some = p.some;
       few = p.few;
+      command = command_kept d.nodes (i == gone) p.entry cargo p.command;
       answered = right_without (i == gone) (reply_from d.nodes p.entry.to (left_bytes p.entry ++ cargo)) p.entry.reply
           (λ same right. none p.entry cargo (subst (λ (k : ℕ). slice_get d.flows k ≡ Some p.entry) (eqb-true i gone same) p.declared) right) p.answered;
     }
@@ -136,7 +147,8 @@ module _ (d : Declaration) (gone : ℕ) where
 
     left_freedom : NeverLocksUp (network_of Left) → NeverLocksUp (network_of d)
     unfolding network_of
-    left_freedom n = freedom (network_of d) (length (all_flows Left)) (length Left.flows) (flow_at Left) declares_all n
+    left_freedom n =
+        freedom (network_of d) (length (all_flows Left)) (length Left.flows) (flow_at Left) (λ i. option_map_or (is_limited Left.nodes) (slice_get (all_flows Left) i) false) (limit_at Left) declares_all n
 
     one_away : NeverLocksUp (network_of (changed d (WithoutReply gone))) → NeverLocksUp (network_of d)
     one_away n = left_freedom (subst (λ (x : Declaration). NeverLocksUp (network_of x)) (is_changed d gone) n)
@@ -172,11 +184,35 @@ all_never d n (f ∷ flows) at =
       | inr may ↦ rw may later
     ]
 
+-- ---- limits
+
+flows_unlimited : (gone n : ℕ) (flows : List FlowEntry) → All (λ (f : FlowEntry). flow_outstanding f ≡ None) flows → All (λ (f : FlowEntry). flow_outstanding f ≡ None) (by_number (flow_after (WithoutReply gone)) n flows)
+flows_unlimited gone n [] all = all
+flows_unlimited gone n (f ∷ flows) all =
+    All-cons (λ (f : FlowEntry). flow_outstanding f ≡ None) (flow_kept (WithoutReply gone) n f) (by_number (flow_after (WithoutReply gone)) (n + 1) flows)
+    (kept_unlimited (n == gone) (All-head (λ (f : FlowEntry). flow_outstanding f ≡ None) f flows all))
+    (flows_unlimited gone (n + 1) flows (All-tail (λ (f : FlowEntry). flow_outstanding f ≡ None) f flows all))
+  where
+    kept_unlimited : (t : Bool) → flow_outstanding f ≡ None → flow_outstanding (record f { reply = if t then None else f.reply }) ≡ None
+    kept_unlimited true none = refl
+    kept_unlimited false none = none
+
+one_unlimited : (d : Declaration) (gone : ℕ) → HasNoLimits d → HasNoLimits (changed d (WithoutReply gone))
+one_unlimited d gone none = subst HasNoLimits (sym (is_changed d gone)) (record { nodes = none.nodes; flows = flows_unlimited gone 0 d.flows none.flows })
+
+all_unlimited : (flows : List ℕ) (d : Declaration) → HasNoLimits d → HasNoLimits (without_replies d flows)
+all_unlimited [] d none = none
+all_unlimited (i ∷ flows) d none = all_unlimited flows (changed d (WithoutReply i)) (one_unlimited d i none)
+
+no_limits : (d : Declaration) → IsValid d → HasNoLimits d → machine.HasNoLimits (network_of d)
+unfolding network_of
+no_limits d valid none n = no_limit_at d none valid.flows n
+
 pub free_without_never_locks_up : ChangesKeepValid → FreeWithoutNeverLocksUp
 free_without_never_locks_up keep d valid free =
     let e : Declaration = without_replies d (never_answered d) in
     let sound : IsValid e = valid_away keep (never_answered d) d valid in
     let made = certificate_exists e sound free.free in
-    let all = is_deadlock_free (network_of e) (certificate_of made.0) (are_networks e sound) (accepted e made.0 sound made.1) (no_limits e) in
+    let all = is_deadlock_free (network_of e) (certificate_of made.0) (are_networks e sound) (accepted e made.0 sound made.1) (no_limits e sound (all_unlimited (never_answered d) d free.unlimited)) in
     all_away (never_answered d) d (all_never d 0 d.flows (λ i f here. let same : i ≡ 0 + i = omega arith in subst (λ (k : ℕ). slice_get d.flows k ≡ Some f) same here))
     (record { always_goes_on = all.always_goes_on; never_locked_up = all.never_locked_up; quiet_is_empty = all.quiet_is_empty; nothing_is_dropped = all.nothing_is_dropped })

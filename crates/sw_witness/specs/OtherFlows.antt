@@ -1,14 +1,14 @@
 -- Two networks of the machine that differ in their flows alone.
-use Rattle.std.specs.Prelude.{◌≡◌, ℕ, List}
+use Rattle.std.specs.Prelude.{◌≡◌, ℕ, Bool, List, Option}
 use Rattle.sw_machine.specs.DeadlockFreedom.{AlwaysGoesOn, IsNeverLockedUp, NothingIsDropped, QuietIsEmpty}
 use Rattle.sw_machine.specs.Network.{Flow, IsDeclared, Network}
 use Rattle.sw_machine.specs.Runs.{Run}
 use Rattle.sw_machine.specs.State.{State, empty}
 use Rattle.sw_machine.specs.Steps.{Step}
 
--- the network with other flows: so many, so many of them declared, and these by number
-abbrev pub with_flows : Network → ℕ → ℕ → (ℕ → Flow) → Network
-with_flows net count declared flow = record net { flows = count; declared_flows = declared; flow = flow }
+-- the network with other flows: so many, so many of them declared, and these by number; whether each is limited; and the limits of the nodes
+abbrev pub with_flows : Network → ℕ → ℕ → (ℕ → Flow) → (ℕ → Bool) → (ℕ → Option ℕ) → Network
+with_flows net count declared flow limited limit = record net { flows = count; declared_flows = declared; flow = flow; limited = limited; limit = limit }
 
 -- each packet that a flow of the first network declares is one that the flow of that number declares in the other, which begins at the
 -- same node with the same address
@@ -31,8 +31,8 @@ RunsAreRuns net other = (steps : List Step) (s : State) → Run net (empty net) 
 
 -- where the other flows declare all packets that the flows declare, each run is one of the other network too
 abbrev pub OtherFlowsKeepRuns : Type 0
-OtherFlowsKeepRuns = (net : Network) (count declared : ℕ) (flow : ℕ → Flow) → DeclaresAll net (with_flows net count declared flow) → RunsAreRuns net (with_flows net count declared flow)
+OtherFlowsKeepRuns = (net : Network) (count declared : ℕ) (flow : ℕ → Flow) (limited : ℕ → Bool) (limit : ℕ → Option ℕ) → DeclaresAll net (with_flows net count declared flow limited limit) → RunsAreRuns net (with_flows net count declared flow limited limit)
 
 -- and if that network never locks up, neither does this one
 abbrev pub OtherFlowsKeepFreedom : Type 0
-OtherFlowsKeepFreedom = (net : Network) (count declared : ℕ) (flow : ℕ → Flow) → DeclaresAll net (with_flows net count declared flow) → NeverLocksUp (with_flows net count declared flow) → NeverLocksUp net
+OtherFlowsKeepFreedom = (net : Network) (count declared : ℕ) (flow : ℕ → Flow) (limited : ℕ → Bool) (limit : ℕ → Option ℕ) → DeclaresAll net (with_flows net count declared flow limited limit) → NeverLocksUp (with_flows net count declared flow limited limit) → NeverLocksUp net

@@ -3,6 +3,7 @@ use Rattle.std.specs.Prelude.{◌≢◌, ℕ, Bool, false, not, ◌==◌, ◌||�
 use Rattle.std.specs.Option.{option_map_or}
 use Rattle.sw_rmap.specs.Instruction.{packet_type, reply_address_len, wants_reply}
 use Rattle.sw_config.specs.Entries.{FlowEntry, Declaration}
+use Rattle.sw_config.specs.Limits.{HasNoLimits}
 use Rattle.sw_machine.specs.DeclaredPackets.{left_bytes}
 use Rattle.sw_search.specs.Laws.{RoutedAndFree}
 use Rattle.sw_mend.specs.Changes.{by_number, changed}
@@ -40,7 +41,9 @@ abbrev pub without_replies : Declaration → List ℕ → Declaration
 without_replies d [] = d
 without_replies d (flow ∷ flows) = without_replies (changed d (WithoutReply flow)) flows
 
--- there are replies that can't happen, and without these each flow is well routed and no channels can wait for one another in a circle
+-- there are replies that can't happen, and without these each flow is well routed and no channels can wait for one another in a circle; and no
+-- commands are limited (else a flow of replies that can't happen might be what keeps a target from having a limit, which runs need not keep)
 pub record IsFreeWithout (d : Declaration) : Type 0 where
+  pub unlimited : HasNoLimits d
   pub some : never_answered d ≢ []
   pub free : RoutedAndFree (without_replies d (never_answered d))

@@ -2,6 +2,7 @@
 //! can't happen, and whether a network is free without them.
 #![tactic(auto)]
 
+mod begun;
 mod command;
 mod confirm;
 mod finding;
@@ -11,6 +12,7 @@ mod placing;
 mod random;
 mod trial;
 mod unanswered_flows;
+mod unlimited;
 mod way;
 mod without;
 mod worm;

@@ -42,8 +42,35 @@ pub(crate) struct Placing {
     pub(crate) back: Vec<Place>,
 }
 
-/// Commands of the flow on its way to the channel, if it has replies, and ends at a target. The cargo is a header and its code, but for
-/// the bytes in front that are left of the flow's address.
+/// Adds the cargo of a command of the flow, if it has replies, and ends at a target: a header and its code, but for the bytes in front that
+/// are left of the flow's address.
+fn add_command(
+    alloc: Global,
+    network: &Network,
+    flow: u16,
+    cargo: &mut Vec<u8>,
+) -> Result<(), AllocError>
+    requires { flow < length (all_flows network.now) }
+{
+    let entry = network.flow(flow);
+    let Some(reply) = entry.reply() else {
+        return Ok(());
+    };
+    let Some(target) = network.target(entry.to()) else {
+        return Ok(());
+    };
+    let header = header(alloc, &target, reply)?;
+    let left = left_bytes(entry);
+    let bytes = &header[left.len().min(header.len())..];
+    let mut code = crc(left);
+    for byte in bytes {
+        code = crc(&[code ^ byte]);
+    }
+    cargo.extend_from_slice(bytes)?;
+    cargo.extend_from_slice(&[code])
+}
+
+/// Commands of the flow on its way to the channel, if it has replies, and ends at a target.
 fn plan_commands(
     alloc: Global,
     network: &Network,
@@ -56,26 +83,16 @@ fn plan_commands(
     if !way_onto(alloc, network, flow, channel, None, &mut placing.there)? {
         return Ok(());
     }
+    add_command(alloc, network, flow, &mut placing.cargo)?;
+    if placing.cargo.is_empty() {
+        return Ok(());
+    }
     let entry = network.flow(flow);
-    let Some(reply) = entry.reply() else {
-        return Ok(());
-    };
-    let Some(target) = network.target(entry.to()) else {
-        return Ok(());
-    };
     placing.flow = flow;
     placing.source = entry.from();
     placing.target = entry.to();
     placing.most = MOST_COMMANDS;
-    let header = header(alloc, &target, reply)?;
-    let left = left_bytes(entry);
-    let bytes = &header[left.len().min(header.len())..];
-    let mut code = crc(left);
-    for byte in bytes {
-        code = crc(&[code ^ byte]);
-    }
-    placing.cargo.extend_from_slice(bytes)?;
-    placing.cargo.extend_from_slice(&[code])
+    Ok(())
 }
 
 /// Commands whose replies, a reply flow, are placed at the end of the way that was found for these.
@@ -103,7 +120,8 @@ fn plan_replies(
 }
 
 /// Packets of the flow that hold the one channel and wait for the other. Those of a declared flow are long ones, the tail of the last of
-/// which is held up at its source, or a short one, which fills the last channel of the way; their cargo is no command.
+/// which is held up at its source, or a short one, which fills the last channel of the way; their cargo is no command, or, where the flow's
+/// commands are limited, one with zeros behind it.
 fn plan_flow(
     alloc: Global,
     network: &Network,
@@ -127,15 +145,20 @@ fn plan_flow(
     }
     placing.flow = flow;
     placing.source = entry.from();
-    if random.below(3) > 0 {
+    if network.is_limited(flow) {
+        add_command(alloc, network, flow, &mut placing.cargo)?;
+    }
+    let count = if random.below(3) > 0 {
         placing.most = MOST_PACKETS;
-        let count = long_cargo(network, &placing.there);
-        placing.cargo.resize(count, 0)
+        long_cargo(network, &placing.there)
     } else {
         placing.most = 1;
-        let count = short_cargo(network, entry.address().len(), &placing.there);
-        placing.cargo.resize(count, 0)
+        short_cargo(network, entry.address().len(), &placing.there)
+    };
+    if placing.cargo.len() < count {
+        placing.cargo.resize(count, 0)?;
     }
+    Ok(())
 }
 
 /// Commands that fill the one channel, if it ends at a node, whose replies leave on the other: of the first flow that the node

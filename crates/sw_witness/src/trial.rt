@@ -1,5 +1,6 @@
 //! A network whose steps are written down.
 
+use crate::begun::CommandsBegun;
 use crate::placing::{Placing, plan};
 use crate::random::Random;
 use std::alloc::{AllocError, Global};
@@ -8,7 +9,7 @@ use sw_char::End;
 use sw_config::Network;
 use sw_flow::Place;
 use sw_machine::Step;
-use sw_schedule::{MAX_STEPS, Net, NetFault, SwitchRoutes, add_entry, declared_net};
+use sw_schedule::{MAX_STEPS, Net, SwitchRoutes, Unanswered, add_entry, declared_net, make_step};
 use sw_search::Tangle;
 use sw_topo::limits::MAX_CHANNELS;
 use sw_topo::{Chan, LinkEnd};
@@ -22,6 +23,8 @@ const MOST_ROUNDS: u32 = 20_000;
 /// A network in some state, and the schedule of the steps that led there. It is not let go but by `one_try`.
 struct ScheduledNet<'n> {
     net: Net<'n, SwitchRoutes<'n>, Policy>,
+    unanswered: Unanswered,
+    begun: CommandsBegun,
     text: String,
     steps: u32,
     // Whether a step was made since this was last unset.
@@ -37,8 +40,8 @@ impl ScheduledNet<'_> {
             if self.failed || self.steps >= MAX_STEPS {
                 break;
             }
-            match self.net.step(alloc, &step) {
-                Ok(()) => {
+            match make_step(alloc, &mut self.net, &mut self.unanswered, &step) {
+                Ok(None) => {
                     self.failed = add_entry(
                         alloc,
                         self.net.network(),
@@ -49,8 +52,8 @@ impl ScheduledNet<'_> {
                     self.steps += 1;
                     self.moved = true;
                 }
-                Err(NetFault::Memory) => self.failed = true,
-                Err(NetFault::NotEnabled | NetFault::NotInFlow) => break,
+                Ok(Some(_)) => break,
+                Err(AllocError) => self.failed = true,
             }
         }
     }
@@ -79,6 +82,9 @@ impl ScheduledNet<'_> {
     fn place_packets(&mut self, alloc: Global, placing: &Placing) {
         for _ in 0..placing.most {
             self.moved = false;
+            if !self.begun.allows(self.net.network(), placing.flow) {
+                break;
+            }
             match placing.cargo.to_vec(alloc) {
                 Ok(cargo) => {
                     let step = Step::Begin {
@@ -93,6 +99,7 @@ impl ScheduledNet<'_> {
             if !self.moved {
                 break;
             }
+            self.begun.add(self.net.network(), placing.flow);
             for _ in 0..MOST_ROUNDS {
                 self.moved = false;
                 self.advance(alloc, placing.source, &placing.there);
@@ -179,8 +186,12 @@ pub(crate) fn one_try(
     tangles: &[Tangle],
     random: &mut Random,
 ) -> Result<Option<String>, AllocError> {
+    let unanswered = Unanswered::new(alloc, network)?;
+    let begun = CommandsBegun::new(alloc, network)?;
     let mut trial = ScheduledNet {
         net: declared_net(alloc, network)?,
+        unanswered,
+        begun,
         text: String::new(alloc),
         steps: 0,
         moved: false,
@@ -193,6 +204,8 @@ pub(crate) fn one_try(
     trial.run(alloc, random);
     let ScheduledNet {
         net,
+        unanswered: _,
+        begun: _,
         text,
         steps: _,
         moved: _,

@@ -3,6 +3,7 @@ ghost use Rattle.std.specs.Prelude.{◌≡◌, ◌↔◌, IfOk, IsTrue, map};
 ghost use Rattle.sw_mend.specs.declared.change.Change.TheVariants.{WithoutReply};
 ghost use Rattle.sw_witness.specs.Unanswered.{IsFreeWithout, never_answered};
 
+use crate::unlimited::has_no_limits;
 use std::alloc::{AllocError, Global};
 use std::marker::Model;
 use sw_config::Network;
@@ -21,7 +22,7 @@ fn replies_away(alloc: Global, flows: &[u16]) -> Result<Vec<Change>, AllocError>
 }
 
 /// Is there a reply that can't happen, and is the network free without these replies? Then it never locks up, though its verdict may be
-/// that it is cyclic. The workers share the work.
+/// that it is cyclic. Nothing is told of a network with limits on unanswered commands. The workers share the work.
 ///
 /// # Errors
 ///
@@ -36,6 +37,9 @@ pub fn is_free_without<W: VerdictWorkers>(
     ensures { IfOk result (λ b. IsTrue b ↔ IsFreeWithout network.now) }
 {
     if flows.is_empty() {
+        return Ok(false);
+    }
+    if !has_no_limits(network) {
         return Ok(false);
     }
     let changes = replies_away(alloc, flows)?;
