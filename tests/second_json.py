@@ -136,16 +136,19 @@ def margins(lines, channel_of):
 
 
 STEP = re.compile(r"\d+\. a packet of (\S+) holds (\S+) and waits for \S+?(?: \(flows ([^)]*)\))?")
-ANSWERING = re.compile(r"\d+\. (\S+) takes nothing from (\S+) until its reply has left on \S+")
+OWING = re.compile(
+    r"\d+\. (\S+) takes nothing from (\S+) while it owes (\d+) repl(?:y|ies): (any number of|\d+) commands? may be unanswered \(.*\)"
+)
 
 
 def step(line, channel_of):
     found = STEP.fullmatch(line)
     if found:
         flows = found[3].split(", ") if found[3] else [found[1]]
-        return {"channel": channel_of[found[2]], **ends(found[2]), "flows": flows, "target": None}
-    found = ANSWERING.fullmatch(line)
-    return {"channel": channel_of[found[2]], **ends(found[2]), "flows": [], "target": found[1]}
+        return {"channel": channel_of[found[2]], **ends(found[2]), "flows": flows, "limit": None, "slots": None, "target": None}
+    found = OWING.fullmatch(line)
+    limit = int(found[4]) if found[4].isdigit() else None
+    return {"channel": channel_of[found[2]], **ends(found[2]), "flows": [], "limit": limit, "slots": int(found[3]), "target": found[1]}
 
 
 def tangles(lines, channel_of):

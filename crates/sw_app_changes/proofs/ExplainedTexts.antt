@@ -1,6 +1,6 @@
 -- Texts by the pieces that they are made of.
 use Rattle.std.proofs.Common.{◌≡◌, ◌∙◌, ◌<◌, ◌≤◌, ℕ, suc, zero, ◌+◌, ◌-◌, All, Bool, List, [], ◌∷◌, ◌++◌, Vec, Global, ap, append_assoc, arith, codes, drop, get_or, length, refl, subst, sym, take}
-use Rattle.std.specs.Prelude.{if◌then◌else◌}
+use Rattle.std.specs.Prelude.{Option, Some, None, if◌then◌else◌}
 use Rattle.std.specs.Fmt.{decimal}
 use Rattle.std.specs.List.{flat_map, range_with_len}
 use Rattle.std.proofs.Math.Dec.{eqb-suc-zero}
@@ -16,7 +16,7 @@ use Rattle.sw_output.specs.ChannelTexts.{channel_text}
 use Rattle.sw_output.specs.FlowTexts.{flow_name, route_fault_text}
 use Rattle.sw_output.proofs.EachLine.{numbered_more}
 use Rattle.sw_search.specs.declared.tangle.Tangle.{Tangle}
-use Rattle.sw_app_changes.specs.ExplainTexts.{counted, counts_text, cycle_line, ending, fault_line, fault_words, flows_text, misrouted_line, misrouted_text, more_text, named, names_text, numbered, place_words, step_line, step_lines, step_text, tangle_text, tangles_text, total_line, way_line, way_lines, way_lines_from}
+use Rattle.sw_app_changes.specs.ExplainTexts.{allowed_text, counted, counts_text, cycle_line, ending, fault_line, fault_words, flows_text, listed, misrouted_line, misrouted_text, more_text, named, names_text, numbered, place_words, replies_noun, replies_text, step_line, step_lines, step_text, tangle_text, tangles_text, total_line, way_line, way_lines, way_lines_from}
 
 -- each of some things has it
 pub each_is : {X : Type 0} (P : X → Type 0) (xs : List X) (i : ℕ) (x : X) → i < length xs → x ≡ get_or xs i x → All P xs → P x
@@ -73,17 +73,17 @@ misrouted_told d flow fault way i which words before after ended which_is words_
     ∙ append_assoc (misrouted_line d flow) lines (which ++ (codes ": " ++ (words ++ codes "\n"))) ∙ ap (λ l. misrouted_line d flow ++ (lines ++ l)) last
 
 step_told : (d : Declaration) (all : Bool) (cycle : CycleEntry) (rows : List (Vec ℕ Global)) (i : ℕ) (step flows : List ℕ)
-    → step ≡ step_text d cycle i → flows ≡ flows_text d all (row rows i)
+    → step ≡ step_text d all cycle i → flows ≡ flows_text d all (row rows i)
     → step_line d all cycle rows i ≡ decimal (i + 1) ++ (codes ". " ++ (step ++ (flows ++ codes "\n")))
 step_told d all cycle rows i step flows step_is flows_are =
-    rw (step_is, flows_are) (numbered_then i (codes " " ++ (step_text d cycle i ++ (flows_text d all (row rows i) ++ codes "\n"))))
+    rw (step_is, flows_are) (numbered_then i (codes " " ++ (step_text d all cycle i ++ (flows_text d all (row rows i) ++ codes "\n"))))
 
 pub line_then : (old number dot words rest : List ℕ) → (old ++ (number ++ (dot ++ words))) ++ rest ≡ old ++ (number ++ (dot ++ (words ++ rest)))
 line_then old number dot words rest = simp append_assoc
 
 -- a step's words, and then its flows
 pub step_ended : (d : Declaration) (all : Bool) (cycle : CycleEntry) (rows : List (Vec ℕ Global)) (i : ℕ) (words flows old first : List ℕ)
-    → words ≡ step_text d cycle i → flows ≡ row rows i → first ≡ old ++ (decimal (i + 1) ++ (codes ". " ++ words))
+    → words ≡ step_text d all cycle i → flows ≡ row rows i → first ≡ old ++ (decimal (i + 1) ++ (codes ". " ++ words))
     → first ++ (flows_text d all flows ++ codes "\n") ≡ old ++ step_line d all cycle rows i
 step_ended d all cycle rows i words flows old first words_are flows_are first_is =
     let rest = flows_text d all flows ++ codes "\n" in
@@ -107,9 +107,9 @@ total_line_is before total noun end of counts last = simp append_assoc
 
 pub tangles_told : (d : Declaration) (all : Bool) (ts : List Tangle) (i n : ℕ) (end before first second after : List ℕ) → length ts ≤ i → n ≡ length ts → end ≡ ending n
     → before ≡ flat_map (tangle_text d all) (take i ts) → first ≡ before ++ (decimal n ++ (codes " tangle" ++ (end ++ codes " of "))) → second ≡ first ++ counts_text ts
-    → after ≡ second ++ codes " channels; buffers, slots and arbiters do not change this\n" → after ≡ tangles_text d all ts
+    → after ≡ second ++ codes " channels; buffers and arbiters do not change this, limits on unanswered commands may\n" → after ≡ tangles_text d all ts
 tangles_told d all ts i n end before first second after ended n_is end_is so_far first_is second_is after_is =
-    let rest = codes " channels; buffers, slots and arbiters do not change this\n" in
+    let rest = codes " channels; buffers and arbiters do not change this, limits on unanswered commands may\n" in
     let last : decimal n ++ (codes " tangle" ++ (end ++ (codes " of " ++ (counts_text ts ++ rest)))) ≡ total_line ts =
     rw (end_is, n_is) (sym (counted_then (length ts) (codes "tangle") (codes " of " ++ (counts_text ts ++ rest)))) in
     after_is ∙ ap (λ l. l ++ rest) (second_is ∙ ap (λ l. l ++ counts_text ts) first_is)
@@ -131,22 +131,17 @@ all_numbered line start i count n text ended most is so_far =
 
 -- ---- the flows that make a step
 
-pub none_more : (n : ℕ) → n ≡ 0 → (more_text n ++ codes ")") ++ codes "\n" ≡ codes ")\n"
-none_more n is = ap (λ k. (more_text k ++ codes ")") ++ codes "\n") is
+pub none_more : (n : ℕ) (end : List ℕ) → n ≡ 0 → more_text n ++ end ≡ end
+none_more n end is = ap (λ k. more_text k ++ end) is
 
-more_then : (count more close end : List ℕ) → ((count ++ more) ++ close) ++ end ≡ count ++ (more ++ (close ++ end))
-more_then count more close end = simp append_assoc
-
-pub some_more : (n : ℕ) → (n ≡ 0 → ⊥) → (more_text n ++ codes ")") ++ codes "\n" ≡ codes " and " ++ (decimal n ++ codes " more)\n")
-some_more zero some = absurd (some refl)
-some_more (suc n) some =
-    ap (λ b. ((if b then [] else codes " and " ++ (decimal (suc n) ++ codes " more")) ++ codes ")") ++ codes "\n") (eqb-suc-zero n)
-    ∙ ap (λ l. codes " and " ++ l) (more_then (decimal (suc n)) (codes " more") (codes ")") (codes "\n"))
+pub some_more : (n : ℕ) (end : List ℕ) → (n ≡ 0 → ⊥) → more_text n ++ end ≡ codes " and " ++ (decimal n ++ (codes " more" ++ end))
+some_more zero end some = absurd (some refl)
+some_more (suc n) end some =
+    ap (λ b. (if b then [] else codes " and " ++ (decimal (suc n) ++ codes " more")) ++ end) (eqb-suc-zero n)
+    ∙ ap (λ l. codes " and " ++ l) (append_assoc (decimal (suc n)) (codes " more") end)
 
 pub few_told : (d : Declaration) (all : Bool) (flows : List ℕ) → length flows < 2 → codes "\n" ≡ flows_text d all flows ++ codes "\n"
-few_told d all flows few =
-    let told : List ℕ = codes " (flows " ++ (names_text d (named all flows) ++ (more_text (length flows - length (named all flows)) ++ codes ")")) in
-    sym (ap (λ b. (if b then [] else told) ++ codes "\n") (lt-ltb (length flows) 2 few))
+few_told d all flows few = sym (ap (λ b. (if b then [] else codes " (flows " ++ listed (flow_name d) all flows) ++ codes "\n") (lt-ltb (length flows) 2 few))
 
 flows_told : (d : Declaration) (all : Bool) (flows chosen : List ℕ) → 2 ≤ length flows → chosen ≡ named all flows
     → flows_text d all flows ≡ codes " (flows " ++ (names_text d chosen ++ (more_text (length flows - length chosen) ++ codes ")"))
@@ -154,19 +149,45 @@ flows_told d all flows chosen many chosen_is =
     let of : List ℕ → List ℕ = λ l. codes " (flows " ++ (names_text d l ++ (more_text (length flows - length l) ++ codes ")")) in
     ap (λ b. if b then [] else of (named all flows)) (le-ltb (length flows) 2 many) ∙ ap of (sym chosen_is)
 
-flows_then : (old head names more end : List ℕ) → ((old ++ head) ++ names) ++ (more ++ end) ≡ old ++ ((head ++ (names ++ more)) ++ end)
-flows_then old head names more end = simp append_assoc
+flows_then : (old head names more close end : List ℕ) → ((old ++ head) ++ names) ++ (more ++ (close ++ end)) ≡ old ++ ((head ++ (names ++ (more ++ close))) ++ end)
+flows_then old head names more close end = simp append_assoc
 
 -- the flows, and the line's end
-pub flows_ended : (d : Declaration) (all : Bool) (flows chosen old first second rest : List ℕ) → 2 ≤ length flows → chosen ≡ named all flows
+pub flows_ended : (d : Declaration) (all : Bool) (flows chosen old first second : List ℕ) → 2 ≤ length flows → chosen ≡ named all flows
     → first ≡ old ++ codes " (flows " → second ≡ first ++ names_text d chosen
-    → (more_text (length flows - length chosen) ++ codes ")") ++ codes "\n" ≡ rest → second ++ rest ≡ old ++ (flows_text d all flows ++ codes "\n")
-flows_ended d all flows chosen old first second rest many chosen_is first_is second_is rest_is =
+    → second ++ (more_text (length flows - length chosen) ++ codes ")\n") ≡ old ++ (flows_text d all flows ++ codes "\n")
+flows_ended d all flows chosen old first second many chosen_is first_is second_is =
     let names : List ℕ = names_text d chosen in
-    let more : List ℕ = more_text (length flows - length chosen) ++ codes ")" in
-    ap (λ l. second ++ l) (sym rest_is)
-    ∙ ap (λ l. l ++ (more ++ codes "\n")) (second_is ∙ ap (λ l. l ++ names) first_is)
-    ∙ flows_then old (codes " (flows ") names more (codes "\n") ∙ ap (λ l. old ++ (l ++ codes "\n")) (sym (flows_told d all flows chosen many chosen_is))
+    let more : List ℕ = more_text (length flows - length chosen) in
+    ap (λ l. l ++ (more ++ codes ")\n")) (second_is ∙ ap (λ l. l ++ names) first_is)
+    ∙ flows_then old (codes " (flows ") names more (codes ")") (codes "\n") ∙ ap (λ l. old ++ (l ++ codes "\n")) (sym (flows_told d all flows chosen many chosen_is))
+
+-- ---- what a target owes
+
+abbrev pub owed_start : ℕ → Option ℕ → List ℕ
+owed_start slots limit = replies_text slots ++ (codes ": " ++ (allowed_text limit ++ codes " ("))
+
+replies_then : (slots : ℕ) (rest : List ℕ) → replies_text slots ++ rest ≡ decimal slots ++ (codes " " ++ (replies_noun slots ++ rest))
+replies_then slots rest = append_assoc (decimal slots) (codes " " ++ replies_noun slots) rest
+
+commands_then : (limit : ℕ) → allowed_text (Some limit) ++ codes " (" ≡ decimal limit ++ (codes " command" ++ (ending limit ++ codes " may be unanswered ("))
+commands_then limit =
+    append_assoc (counted limit (codes "command")) (codes " may be unanswered") (codes " (") ∙ counted_then limit (codes "command") (codes " may be unanswered (")
+
+pub limit_told : (slots n : ℕ) (limit : Option ℕ) (replies end text : List ℕ) → limit ≡ Some n → replies ≡ replies_noun slots → end ≡ ending n
+    → text ≡ decimal slots ++ (codes " " ++ (replies ++ (codes ": " ++ (decimal n ++ (codes " command" ++ (end ++ codes " may be unanswered ("))))))
+    → text ≡ owed_start slots limit
+limit_told slots n limit replies end text limit_is replies_is end_is is =
+    is ∙ ap (λ l. decimal slots ++ (codes " " ++ (l ++ (codes ": " ++ (decimal n ++ (codes " command" ++ (end ++ codes " may be unanswered ("))))))) replies_is
+    ∙ ap (λ l. decimal slots ++ (codes " " ++ (replies_noun slots ++ (codes ": " ++ (decimal n ++ (codes " command" ++ (l ++ codes " may be unanswered ("))))))) end_is
+    ∙ ap (λ l. decimal slots ++ (codes " " ++ (replies_noun slots ++ (codes ": " ++ l)))) (sym (commands_then n))
+    ∙ sym (replies_then slots (codes ": " ++ (allowed_text (Some n) ++ codes " ("))) ∙ ap (owed_start slots) (sym limit_is)
+
+pub no_limit_told : (slots : ℕ) (limit : Option ℕ) (replies text : List ℕ) → limit ≡ None → replies ≡ replies_noun slots
+    → text ≡ decimal slots ++ (codes " " ++ (replies ++ codes ": any number of commands may be unanswered (")) → text ≡ owed_start slots limit
+no_limit_told slots limit replies text limit_is replies_is is =
+    is ∙ ap (λ l. decimal slots ++ (codes " " ++ (l ++ codes ": any number of commands may be unanswered ("))) replies_is
+    ∙ sym (replies_then slots (codes ": any number of commands may be unanswered (")) ∙ ap (owed_start slots) (sym limit_is)
 
 -- ---- a text of a first element and of more
 

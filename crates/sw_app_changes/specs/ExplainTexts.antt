@@ -1,10 +1,13 @@
 -- The text of `explain` (this project's choice).
-use Rattle.std.specs.Prelude.{◌≡◌, ◌<◌, ◌+◌, ◌-◌, ◌==◌, ℕ, Bool, All, List, Vec, [], ◌∷◌, ◌++◌, codes, flat_map, if◌then◌else◌, length, nat_lt, slice_get, take}
+use Rattle.std.specs.Prelude.{◌≡◌, ◌<◌, ◌+◌, ◌-◌, ◌==◌, ◌&&◌, ◌||◌, ℕ, Bool, false, not, All, List, Vec, [], ◌∷◌, ◌++◌, Option, Some, None}
+use Rattle.std.specs.Prelude.{codes, filter, flat_map, if◌then◌else◌, is_some, length, nat_lt, option_and_then, option_map, slice_get, take}
+use Rattle.std.specs.Prelude.{unwrap_or}
 use Rattle.std.specs.Option.{option_map_or}
 use Rattle.std.specs.Fmt.{decimal}
 use Rattle.std.specs.List.{range_with_len}
 use Rattle.std.specs.declared.alloc.Global.{Global}
-use Rattle.sw_config.specs.Entries.{Declaration, wiring_of}
+use Rattle.sw_config.specs.Entries.{Declaration, FlowEntry, all_flows, is_answered_at, target_of, wiring_of}
+use Rattle.sw_config.specs.Limits.{flow_outstanding, is_limited, limit_at}
 use Rattle.sw_cycle.specs.Cycles.{CauseEntry, CycleEntry, ByFlow, ByTarget, round}
 use Rattle.sw_search.specs.declared.explanation.Explanation.{Explanation}
 use Rattle.sw_search.specs.declared.explanation.Explanation.TheVariants.{Misrouted, Cyclic, Free}
@@ -72,29 +75,20 @@ misrouted_line d flow = line (codes "misrouted" ∷ flow_name d flow ∷ [])
 abbrev pub misrouted_text : Declaration → ℕ → RouteFault → List Place → List ℕ
 misrouted_text d flow fault way = misrouted_line d flow ++ (way_lines d flow way ++ fault_line fault)
 
--- ---- channels that may wait for one another
-
--- a flow's packet holds one channel until it gets another
-abbrev pub holding_words : List ℕ → List ℕ → List ℕ → List ℕ
-holding_words flow from to = spaced (codes "a packet of" ∷ flow ∷ codes "holds" ∷ from ∷ codes "and waits for" ∷ to ∷ [])
-
--- a target takes nothing from one channel while it answers on another
-abbrev pub answering_words : List ℕ → List ℕ → List ℕ → List ℕ
-answering_words node from to = spaced (node ∷ codes "takes nothing from" ∷ from ∷ codes "until its reply has left on" ∷ to ∷ [])
-
--- why a packet on one channel may wait for the next one
-abbrev pub step_words : Declaration → ℕ → ℕ → CauseEntry → List ℕ
-step_words d c e (ByFlow flow places) = holding_words (flow_name d flow) (channel_text d c) (channel_text d e)
-step_words d c e (ByTarget node) = answering_words (node_name d node) (channel_text d c) (channel_text d e)
+-- ---- lists of flows
 
 -- the flows that are named: all of them, or the first six
 abbrev pub named : Bool → List ℕ → List ℕ
 named all flows = if all then flows else take 6 flows
 
+-- a text for each flow, with this between each two
+abbrev pub joined : (ℕ → List ℕ) → List ℕ → List ℕ → List ℕ
+joined text between [] = []
+joined text between (flow ∷ flows) = text flow ++ flat_map (λ f. between ++ text f) flows
+
 -- names of flows, with this between each two
 abbrev pub joined_names : Declaration → List ℕ → List ℕ → List ℕ
-joined_names d between [] = []
-joined_names d between (flow ∷ flows) = flow_name d flow ++ flat_map (λ f. between ++ flow_name d f) flows
+joined_names d between flows = joined (flow_name d) between flows
 
 -- with a comma between each two
 abbrev pub names_text : Declaration → List ℕ → List ℕ
@@ -104,15 +98,83 @@ names_text d flows = joined_names d (codes ", ") flows
 abbrev pub more_text : ℕ → List ℕ
 more_text count = if count == 0 then [] else codes " and " ++ (decimal count ++ codes " more")
 
+-- a text for each flow that is named, how many more there are, and the end of the list
+abbrev pub listed : (ℕ → List ℕ) → Bool → List ℕ → List ℕ
+listed text all flows = joined text (codes ", ") (named all flows) ++ (more_text (length flows - length (named all flows)) ++ codes ")")
+
 -- all flows that make a step, where there are two or more
 abbrev pub flows_text : Declaration → Bool → List ℕ → List ℕ
-flows_text d all flows =
-    if nat_lt (length flows) 2 then []
-    else codes " (flows " ++ (names_text d (named all flows) ++ (more_text (length flows - length (named all flows)) ++ codes ")"))
+flows_text d all flows = if nat_lt (length flows) 2 then [] else codes " (flows " ++ listed (flow_name d) all flows
+
+-- ---- commands that may be unanswered
+
+-- the noun of so many replies
+abbrev pub replies_noun : ℕ → List ℕ
+replies_noun count = if count == 1 then codes "reply" else codes "replies"
+
+-- so many replies
+abbrev pub replies_text : ℕ → List ℕ
+replies_text count = spaced (decimal count ∷ replies_noun count ∷ [])
+
+-- how many commands may be unanswered, where None is any number of them
+abbrev pub allowed_text : Option ℕ → List ℕ
+allowed_text None = codes "any number of commands may be unanswered"
+allowed_text (Some limit) = spaced (counted limit (codes "command") ∷ codes "may be unanswered" ∷ [])
+
+-- how many replies node n may owe, if it is a target
+abbrev pub slots_at : Declaration → ℕ → Option ℕ
+slots_at d n = option_map (λ t. t.slots) (target_of d.nodes n)
+
+-- The flow is told of at node n, which answers its packets: each such flow is where so many commands may be unanswered there, and else
+-- those that are not limited, which are why any number may.
+abbrev pub is_told_at : Declaration → ℕ → FlowEntry → Bool
+is_told_at d n f = is_answered_at n f && (is_some (limit_at d n) || not (is_limited d.nodes f))
+
+-- the same of a flow by its number
+abbrev pub is_number_told : Declaration → ℕ → ℕ → Bool
+is_number_told d n flow = option_map_or (is_told_at d n) (slice_get (all_flows d) flow) false
+
+-- the numbers of these flows
+abbrev pub told_commands : Declaration → ℕ → List ℕ
+told_commands d n = filter (is_number_told d n) (range_with_len 0 (length (all_flows d)))
+
+-- how many commands of the flow may be unanswered, if it has a limit of its own
+abbrev pub own_limit : Declaration → ℕ → Option ℕ
+own_limit d flow = option_and_then flow_outstanding (slice_get (all_flows d) flow)
+
+-- its name, and then this limit
+abbrev pub name_and_limit : Declaration → ℕ → List ℕ
+name_and_limit d flow = flow_name d flow ++ option_map_or (λ limit. codes " " ++ decimal limit) (own_limit d flow) []
+
+-- how many replies node n owes when it takes nothing, how many commands may be unanswered there, and the flows that say so
+abbrev pub owed_text : Declaration → Bool → ℕ → List ℕ
+owed_text d all n =
+    replies_text (unwrap_or (slots_at d n) 1)
+    ++ (codes ": " ++ (allowed_text (limit_at d n) ++ (codes " (" ++ listed (name_and_limit d) all (told_commands d n))))
+
+-- ---- channels that may wait for one another
+
+-- a flow's packet holds one channel until it gets another
+abbrev pub holding_words : List ℕ → List ℕ → List ℕ → List ℕ
+holding_words flow from to = spaced (codes "a packet of" ∷ flow ∷ codes "holds" ∷ from ∷ codes "and waits for" ∷ to ∷ [])
+
+-- a target takes nothing from a channel while it owes so many replies
+abbrev pub owing_words : List ℕ → List ℕ → List ℕ → List ℕ
+owing_words node from owed = spaced (node ∷ codes "takes nothing from" ∷ from ∷ codes "while it owes" ∷ owed ∷ [])
+
+-- what is waited for: that a packet gets the next channel, or that a target owes less
+abbrev pub awaited : Declaration → Bool → ℕ → CauseEntry → List ℕ
+awaited d all e (ByFlow flow places) = channel_text d e
+awaited d all e (ByTarget node) = owed_text d all node
+
+-- why a packet on one channel may wait for the next one
+abbrev pub step_words : Declaration → Bool → ℕ → ℕ → CauseEntry → List ℕ
+step_words d all c e (ByFlow flow places) = holding_words (flow_name d flow) (channel_text d c) (channel_text d e)
+step_words d all c e (ByTarget node) = owing_words (node_name d node) (channel_text d c) (owed_text d all node)
 
 -- the step from channel i of the cycle to the next one, by its cause
-abbrev pub step_text : Declaration → CycleEntry → ℕ → List ℕ
-step_text d cycle i = option_map_or (step_words d (round cycle.channels i) (round cycle.channels (i + 1))) (slice_get cycle.causes i) []
+abbrev pub step_text : Declaration → Bool → CycleEntry → ℕ → List ℕ
+step_text d all cycle i = option_map_or (step_words d all (round cycle.channels i) (round cycle.channels (i + 1))) (slice_get cycle.causes i) []
 
 -- a step with its number and the flows that make it
 abbrev pub numbered_line : List ℕ → List ℕ → List ℕ → List ℕ
@@ -120,7 +182,7 @@ numbered_line number step flows = number ++ (codes " " ++ (step ++ (flows ++ cod
 
 -- the line of channel i of the cycle
 abbrev pub step_line : Declaration → Bool → CycleEntry → List (Vec ℕ Global) → ℕ → List ℕ
-step_line d all cycle flows i = numbered_line (numbered i) (step_text d cycle i) (flows_text d all (row flows i))
+step_line d all cycle flows i = numbered_line (numbered i) (step_text d all cycle i) (flows_text d all (row flows i))
 
 -- a line for each channel of the cycle
 abbrev pub step_lines : Declaration → Bool → CycleEntry → List (Vec ℕ Global) → List ℕ
@@ -142,19 +204,25 @@ counts_text (t ∷ ts) = decimal t.channels ++ flat_map (λ (u : Tangle). codes 
 -- how many tangles there are, and of how many channels each
 abbrev pub total_line : List Tangle → List ℕ
 total_line ts = line (counted (length ts) (codes "tangle") ∷ codes "of" ∷ counts_text ts
-    ∷ codes "channels; buffers, slots and arbiters do not change this" ∷ [])
+    ∷ codes "channels; buffers and arbiters do not change this, limits on unanswered commands may" ∷ [])
 
 abbrev pub tangles_text : Declaration → Bool → List Tangle → List ℕ
 tangles_text d all ts = flat_map (tangle_text d all) ts ++ total_line ts
 
 -- ---- all together
 
+-- what is taken for granted
+abbrev pub granted : List ℕ
+granted =
+    codes "taken for granted: nodes take what comes, sources end their packets, links lose and change nothing, only declared packets are sent, "
+    ++ codes "limits on unanswered commands are kept"
+
 -- that nothing can lock up, what that does not hang on, and what is taken for granted
 abbrev pub free_text : List ℕ
 free_text = line (codes "free" ∷ [])
     ++ (line (codes "no channels can wait for one another in a circle; swcheck decide writes the certificate" ∷ [])
-    ++ (line (codes "buffers, slots and arbiters do not change this" ∷ [])
-    ++ line (codes "taken for granted: nodes take what comes, sources end their packets, links lose and change nothing, only declared packets are sent" ∷ [])))
+    ++ (line (codes "buffers and arbiters do not change this; where the file limits unanswered commands, other limits and slots may" ∷ [])
+    ++ line (granted ∷ [])))
 
 -- what is told of a network
 abbrev pub explain_text : Declaration → Bool → Explanation → List ℕ

@@ -1,25 +1,28 @@
 //! The text of a step of a cycle.
-ghost use Rattle.std.specs.Prelude.{◌≡◌, ◌≤◌, ◌++◌, ℕ, IfOk, OnOk, codes, length, string_bytes};
+ghost use Rattle.std.specs.Prelude.{◌≡◌, ◌<◌, ◌≤◌, ◌++◌, ℕ, Bool, IfOk, OnOk, codes, length, string_bytes};
+ghost use Rattle.sw_config.specs.Entries.{wiring_of};
 ghost use Rattle.sw_cycle.specs.Cycles.{cause_of};
 ghost use Rattle.sw_output.specs.ChannelTexts.{channel_text};
-ghost use Rattle.sw_app_changes.specs.ExplainTexts.{flows_text, joined_names, names_text, named, step_words};
+ghost use Rattle.sw_app_changes.specs.ExplainTexts.{awaited, flows_text, joined_names, more_text, names_text, named, step_words};
 
+use crate::owed_texts::owed_text;
 use std::alloc::{AllocError, Global};
 use std::fmt::Write;
 use sw_config::Network;
 use sw_cycle::Cause;
-use sw_output::{flow_name, node_name};
+use sw_output::{channel_text, flow_name, node_name};
+use sw_topo::Chan;
 
 /// How many of the flows that make a step are named, unless all are.
 const MOST_NAMED: usize = 6;
 
-/// What stands before a name, the name, and what stands before each of two channels: a flow's packet holds one until it gets the other,
-/// or a target takes nothing from one while it answers on the other.
+/// What stands before a name, the name, what stands before a channel, and what stands before that which is waited for: a flow's packet
+/// holds the channel and waits for the next, or a target takes nothing from it while it owes replies.
 pub(crate) fn step_parts<'a>(
     network: &'a Network,
     cause: &Cause,
 ) -> (&'static str, &'a str, &'static str, &'static str)
-    ensures { (c e : ℕ) → result.0.now ++ (result.1.now ++ (result.2.now ++ (channel_text network.now c ++ (result.3.now ++ channel_text network.now e)))) ≡ step_words network.now c e (cause_of cause.now) }
+    ensures { (all : Bool) (c e : ℕ) → result.0.now ++ (result.1.now ++ (result.2.now ++ (channel_text network.now c ++ (result.3.now ++ awaited network.now all e (cause_of cause.now))))) ≡ step_words network.now all c e (cause_of cause.now) }
 {
     match cause {
         Cause::Flow(flow, _) => (
@@ -32,13 +35,30 @@ pub(crate) fn step_parts<'a>(
             "",
             node_name(network, *node),
             " takes nothing from ",
-            " until its reply has left on ",
+            " while it owes ",
         ),
     }
 }
 
-// The flows that are named.
-fn named(flows: &[u16], all: bool) -> &[u16]
+/// What is waited for: the next channel, or that a target owes less than so many replies.
+pub(crate) fn awaited(
+    alloc: Global,
+    network: &Network,
+    all: bool,
+    next: Chan,
+    cause: &Cause,
+) -> Result<String, AllocError>
+    requires { next < length (wiring_of network.now).ends }
+    ensures { IfOk result (λ s. string_bytes s ≡ awaited network.now all next (cause_of cause.now)) }
+{
+    match cause {
+        Cause::Flow(_, _) => channel_text(alloc, network, next),
+        Cause::Target(node) => owed_text(alloc, network, all, *node),
+    }
+}
+
+/// The flows that are named.
+pub(crate) fn named(flows: &[u16], all: bool) -> &[u16]
     ensures is { result.now ≡ named all flows.now }
     ensures most { length result.now ≤ length flows.now }
 {
@@ -102,9 +122,15 @@ pub(crate) fn end_step_line(
     let named = named(flows, all);
     text.push_str(" (flows ")?;
     add_names(text, network, ", ", named)?;
-    let more = count - named.len();
+    add_more(text, count - named.len(), ")\n")
+}
+
+/// Adds how many more there are, if any, and what ends the list.
+pub(crate) fn add_more(text: &mut String, more: usize, end: &str) -> Result<(), AllocError>
+    ensures { OnOk result (string_bytes text.new ≡ string_bytes text.old ++ (more_text more ++ end.now)) }
+{
     if more == 0 {
-        return text.push_str(")\n");
+        return text.push_str(end);
     }
-    write!(text, " and {more} more)\n")
+    write!(text, " and {more} more{end}")
 }

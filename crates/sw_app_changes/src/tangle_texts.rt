@@ -4,7 +4,7 @@ ghost use Rattle.sw_config.specs.Entries.{wiring_of};
 ghost use Rattle.sw_search.specs.Explanations.{IsTangled};
 ghost use Rattle.sw_app_changes.specs.ExplainTexts.{counts_text, step_line, tangle_text, tangles_text, IsOfChannels};
 
-use crate::step_texts::{end_step_line, step_parts};
+use crate::step_texts::{awaited, end_step_line, step_parts};
 use crate::words::ending;
 use std::alloc::{AllocError, Global};
 use std::fmt::Write;
@@ -12,6 +12,10 @@ use sw_config::Network;
 use sw_cycle::Cycle;
 use sw_output::channel_text;
 use sw_search::Tangle;
+
+/// The end of the last line: what the tangles do not hang on, and what they may.
+const UNCHANGED: &str =
+    " channels; buffers and arbiters do not change this, limits on unanswered commands may\n";
 
 // Adds the line of that channel of the cycle: the step from it to the next one, by its cause, and the flows that make it.
 fn add_step_line(
@@ -32,9 +36,14 @@ fn add_step_line(
     let number = i + 1;
     let channels = cycle.channels.as_slice();
     let from = channel_text(alloc, network, channels[i])?;
-    let to = channel_text(alloc, network, channels[number % channels.len()])?;
-    let (before, name, held, wanted) = step_parts(network, &cycle.causes[i]);
-    write!(text, "{number}. {before}{name}{held}{from}{wanted}{to}")?;
+    let next = channels[number % channels.len()];
+    let cause = &cycle.causes[i];
+    let awaited = awaited(alloc, network, all, next, cause)?;
+    let (before, name, held, wanted) = step_parts(network, cause);
+    write!(
+        text,
+        "{number}. {before}{name}{held}{from}{wanted}{awaited}"
+    )?;
     end_step_line(text, network, &flows[i], all)
 }
 
@@ -96,6 +105,6 @@ pub(crate) fn tangles_text(
     }
     write!(text, "{total} tangle{ending} of ")?;
     add_counts(&mut text, tangles)?;
-    text.push_str(" channels; buffers, slots and arbiters do not change this\n")?;
+    text.push_str(UNCHANGED)?;
     Ok(text)
 }

@@ -31,8 +31,8 @@ pub use files::{Release, audit_value, bare_entry, kind_value, read_entry};
 pub use inputs::{input_value, long_input};
 pub use lists::{add_value, flow_name_values, text_values};
 pub use objects::{
-    Member, object_of, object_of_five, object_of_four, object_of_six, object_of_three,
-    object_of_two,
+    Member, object_of, object_of_five, object_of_four, object_of_seven, object_of_six,
+    object_of_three, object_of_two,
 };
 pub use places::{finish_text, misrouted_fault_value, place_value, place_values, start_text};
 pub use serde_json::Value;

@@ -215,3 +215,27 @@ pub fn object_of_six<'a>(
     let all = with_member(alloc, five, sixth);
     whole_object(all)
 }
+
+/// The object of seven members.
+///
+/// # Errors
+///
+/// There is no memory for the value.
+pub fn object_of_seven<'a>(
+    alloc: Global,
+    first: (&'a str, Member<'a>),
+    second: (&'a str, Member<'a>),
+    third: (&'a str, Member<'a>),
+    fourth: (&'a str, Member<'a>),
+    fifth: (&'a str, Member<'a>),
+    sixth: (&'a str, Member<'a>),
+    seventh: (&'a str, Member<'a>),
+) -> Result<Value, AllocError>
+    ensures { IfOk result (λ v. view v ≡ object_of (map (λ m. (m.0.now, member_value m.1)) (first.entry ∷ second.entry ∷ third.entry ∷ fourth.entry ∷ fifth.entry ∷ sixth.entry ∷ seventh.entry ∷ []))) }
+{
+    let four = four_members(alloc, first, second, third, fourth);
+    let five = with_member(alloc, four, fifth);
+    let six = with_member(alloc, five, sixth);
+    let all = with_member(alloc, six, seventh);
+    whole_object(all)
+}

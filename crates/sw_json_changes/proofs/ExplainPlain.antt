@@ -1,14 +1,16 @@
 -- The values of explanations have no floats and are not deep.
 use Rattle.std.proofs.Common.{ℕ, List, [], ◌∷◌, All, arith, map}
 use Rattle.std.proofs.lemmas.List.Elements.{All-cons, All-nil}
+use Rattle.sw_app_changes.specs.ExplainTexts.{slots_at}
 use Rattle.sw_config.specs.Entries.{Declaration}
+use Rattle.sw_config.specs.Limits.{limit_at}
 use Rattle.sw_cycle.specs.Cycles.{CauseEntry, ByFlow, ByTarget}
 use Rattle.sw_search.specs.declared.explanation.Explanation.TheVariants.{Misrouted, Cyclic, Free}
 use Rattle.sw_search.specs.declared.tangle.Tangle.{Tangle}
 use Rattle.sw_json.specs.Plain.{IsPlain, KindsArePlain, PlacesArePlain}
 use Rattle.sw_json.specs.PlaceValues.{place_value}
-use Rattle.sw_json.proofs.Plain.{count_plain, list_plain, made_plain, no_more, null_plain, object_plain, plain_at_more, text_plain, with_member}
-use Rattle.sw_json_changes.specs.ExplainValues.{step_value, step_values, tangle_value, target_value}
+use Rattle.sw_json.proofs.Plain.{count_or_null_plain, count_plain, list_plain, made_plain, no_more, null_plain, object_plain, plain_at_more, text_plain, with_member}
+use Rattle.sw_json_changes.specs.ExplainValues.{limit_value, slots_value, step_value, step_values, tangle_value, target_value}
 use Rattle.sw_json_changes.specs.ExplainLaws.{ExplanationsArePlain}
 use Rattle.sw_json_changes.proofs.NamesPlain.{names_plain}
 
@@ -16,10 +18,18 @@ target_plain : (d : Declaration) (cause : CauseEntry) → IsPlain 1 (target_valu
 target_plain d (ByTarget node) = text_plain
 target_plain d (ByFlow flow places) = null_plain
 
+limit_plain : (d : Declaration) (cause : CauseEntry) → IsPlain 1 (limit_value d cause)
+limit_plain d (ByTarget node) = count_or_null_plain (limit_at d node)
+limit_plain d (ByFlow flow places) = null_plain
+
+slots_plain : (d : Declaration) (cause : CauseEntry) → IsPlain 1 (slots_value d cause)
+slots_plain d (ByTarget node) = count_or_null_plain (slots_at d node)
+slots_plain d (ByFlow flow places) = null_plain
+
 step_plain : (d : Declaration) (c : ℕ) (cause : CauseEntry) (flows : List ℕ) → IsPlain 2 (step_value d c cause flows)
 step_plain d c cause flows =
-    object_plain 1 (with_member count_plain (with_member text_plain (with_member (names_plain d flows) (with_member text_plain
-    (with_member (target_plain d cause) no_more)))))
+    object_plain 1 (with_member count_plain (with_member text_plain (with_member (names_plain d flows) (with_member (limit_plain d cause)
+    (with_member (slots_plain d cause) (with_member text_plain (with_member (target_plain d cause) no_more)))))))
 
 steps_plain : (d : Declaration) (channels : List ℕ) (causes : List CauseEntry) (rows : List (List ℕ)) → All (IsPlain 2) (step_values d channels causes rows)
 steps_plain d [] causes rows = All-nil (IsPlain 2)

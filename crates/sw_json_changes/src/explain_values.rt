@@ -6,16 +6,17 @@ ghost use Rattle.sw_config.specs.Entries.{wiring_of};
 ghost use Rattle.sw_cycle.specs.Cycles.{cause_of};
 ghost use Rattle.sw_json.specs.Objects.{member_value};
 ghost use Rattle.sw_search.specs.Explanations.{GoesWrong, IsExplanation, IsTangled};
-ghost use Rattle.sw_json_changes.specs.ExplainValues.{explain_value, step_value, step_values, tangle_value, tangles_value, target_value, wrong_value};
+ghost use Rattle.sw_json_changes.specs.ExplainValues.{explain_value, limit_value, slots_value, step_value, step_values, tangle_value, tangles_value, target_value, wrong_value};
 
 use serde_json::Value;
 use std::alloc::{AllocError, Global};
+use sw_app_changes::slots_at;
 use sw_config::Network;
 use sw_cycle::Cause;
 use sw_flow::{Place, RouteFault};
 use sw_json::{
     Member, add_value, finish_text, flow_name_values, kind_value, misrouted_fault_value,
-    object_of_five, object_of_four, object_of_two, place_values, start_text,
+    object_of_four, object_of_seven, object_of_two, place_values, start_text,
 };
 use sw_output::{flow_name, node_name};
 use sw_search::{Explanation, Tangle};
@@ -55,6 +56,32 @@ fn target_value<'a>(network: &'a Network, cause: &Cause) -> Member<'a>
     }
 }
 
+// How many commands may be unanswered at the target: null where any number may, and where flows make a channel wait.
+fn limit_value(network: &Network, cause: &Cause) -> Member<'static>
+    ensures { member_value result ≡ limit_value network.now (cause_of cause.now) }
+{
+    let Cause::Target(node) = cause else {
+        return Member::Value(Value::Null);
+    };
+    match network.limit_at(*node) {
+        Some(limit) => Member::Number(u64::from(limit)),
+        None => Member::Value(Value::Null),
+    }
+}
+
+// How many replies the target may owe: null where flows make a channel wait.
+fn slots_value(network: &Network, cause: &Cause) -> Member<'static>
+    ensures { member_value result ≡ slots_value network.now (cause_of cause.now) }
+{
+    let Cause::Target(node) = cause else {
+        return Member::Value(Value::Null);
+    };
+    match slots_at(network, *node) {
+        Some(slots) => Member::Number(u64::from(slots)),
+        None => Member::Value(Value::Null),
+    }
+}
+
 // A channel of a cycle, and what makes it wait for the next.
 fn step_value(
     alloc: Global,
@@ -70,11 +97,13 @@ fn step_value(
     let start = start_text(alloc, network, channel)?;
     let names = flow_name_values(alloc, network, flows)?;
     let number = channel.number();
-    object_of_five(
+    object_of_seven(
         alloc,
         ("channel", Member::Number(u64::from(number))),
         ("end", Member::Value(Value::String(end))),
         ("flows", Member::Value(Value::Array(names))),
+        ("limit", limit_value(network, cause)),
+        ("slots", slots_value(network, cause)),
         ("start", Member::Value(Value::String(start))),
         ("target", target_value(network, cause)),
     )
