@@ -1,6 +1,6 @@
 -- The way of a flow, and what waits on it.
-use Rattle.std.proofs.Common.{◌≡◌, ℕ, zero, suc, ◌+◌, ◌-◌, ◌*◌, ◌<◌, List, [], ◌∷◌, ◌++◌, length, map, All, Contains, Option, Some, None, refl, sym, ap, ◌∙◌, arith, append_assoc}
-use Rattle.std.specs.Prelude.{slice_get}
+use Rattle.std.proofs.Common.{◌≡◌, true, ℕ, zero, suc, ◌+◌, ◌-◌, ◌*◌, ◌<◌, List, [], ◌∷◌, ◌++◌, length, map, All, Contains, Option, Some, None, refl, sym, ap, ◌∙◌, arith, append_assoc}
+use Rattle.std.specs.Prelude.{slice_get, if◌then◌else◌}
 use Rattle.std.specs.List.{AllByRecursion}
 use Rattle.std.specs.Option.{option_map_or}
 use Rattle.std.proofs.lemmas.List.Elements.{All-from_recursion}
@@ -13,7 +13,7 @@ use Rattle.sw_flow.specs.declared.place.Place.{Place}
 use Rattle.sw_flow.specs.Followers.{followers_of}
 use Rattle.sw_flow.specs.Places.{ends_of}
 use Rattle.sw_flow.proofs.Walked.{followers_are_listed}
-use Rattle.sw_margin.specs.Bends.{answering, first_way, start_on, waits_back, way_of}
+use Rattle.sw_margin.specs.Bends.{answered, answering, first_way, is_just_enough, stall, start_on, waits_back, way_of}
 use Rattle.sw_margin.specs.Waits.{IsWithin}
 use Rattle.sw_flow.proofs.Partners.{partner_within}
 
@@ -76,6 +76,11 @@ module _ (d : Declaration) (f : FlowEntry) where
       let one : waits_from (suc n) p ≡ w ∷ waits_from n q = ap (λ (ps : List Place). waits_back (channels (p ∷ ps))) (goes_on n p q some) in
       let here : before ++ waits_from (total - i) p ≡ before ++ (w ∷ waits_from n q) = ap (λ k. before ++ waits_from k p) count ∙ ap (λ (l : List (ℕ × ℕ)). before ++ l) one in
       ap (λ (l : List (ℕ × ℕ)). l ++ waits_from n q) more ∙ append_assoc before (w ∷ []) (waits_from n q) ∙ sym here ∙ so_far
+
+  -- where it starts, too
+  pub with_stall : (old after : List (ℕ × ℕ)) (w : ℕ × ℕ) → is_just_enough d f.from ≡ true → old ≡ answering d f → stall d f.from ≡ w ∷ [] → after ≡ old ++ w ∷ [] → after ≡ answered d f
+  with_stall old after w enough before one more =
+      more ∙ (λ i. before i ++ sym one i) ∙ ap (λ b. answering d f ++ (if b then stall d f.from else [])) (sym enough)
 
   -- ---- where the waits are
 

@@ -1,10 +1,11 @@
 -- Nodes that take nothing while they want to send, and flows that are answered: what then waits, and whether the network stays free.
-use Rattle.std.specs.Prelude.{◌≡◌, ◌↔◌, ℕ, zero, suc, Bool, false, not, IsTrue, is_some, List, [], ◌∷◌, filter, map, length, slice_get}
+use Rattle.std.specs.Prelude.{◌≡◌, ◌↔◌, ℕ, zero, suc, ◌==◌, Bool, false, not, IsTrue, is_some, List, [], ◌∷◌, ◌++◌, filter, map, length, slice_get, if◌then◌else◌}
 use Rattle.std.specs.List.{AllZip, range_with_len}
 use Rattle.std.specs.Option.{option_map_or}
 use Rattle.sw_topo.specs.Wiring.{out, partner}
-use Rattle.sw_config.specs.Entries.{FlowEntry, Declaration}
-use Rattle.sw_config.specs.Limits.{may_make_wait}
+use Rattle.sw_config.specs.Entries.{FlowEntry, Declaration, target_of}
+use Rattle.sw_config.specs.Limits.{limit_at, may_make_wait}
+use Rattle.sw_rmap.specs.Targets.{slots_of}
 use Rattle.sw_flow.specs.declared.place.Place.{Place}
 use Rattle.sw_flow.specs.Places.{ends_of}
 use Rattle.sw_flow.specs.Followers.{followers_of}
@@ -54,9 +55,21 @@ waits_back (c ∷ e ∷ cs) = (partner e, partner c) ∷ waits_back (e ∷ cs)
 abbrev pub answering : Declaration → FlowEntry → List (ℕ × ℕ)
 answering d f = waits_back (map (λ p. p.channel) (way_of d f))
 
--- the flow of that number is answered so
+-- as many commands may be unanswered at node n as replies may be owed: it always takes what comes only if nothing else ends there
+abbrev pub is_just_enough : Declaration → ℕ → Bool
+is_just_enough d n = option_map_or (λ l. l == slots_of (target_of d.nodes n)) (limit_at d n) false
+
+-- replies come to end at node n: from then on what comes there may have to wait for its own replies
+abbrev pub with_replies : Declaration → ℕ → List (ℕ × ℕ)
+with_replies d n = if is_just_enough d n then stall d n else []
+
+-- the flow is answered so, and the replies end where it starts
+abbrev pub answered : Declaration → FlowEntry → List (ℕ × ℕ)
+answered d f = answering d f ++ with_replies d f.from
+
+-- the same of the flow of that number
 abbrev pub answering_at : Declaration → ℕ → List (ℕ × ℕ)
-answering_at d i = option_map_or (answering d) (slice_get d.flows i) []
+answering_at d i = option_map_or (answered d) (slice_get d.flows i) []
 
 -- ---- what is told
 

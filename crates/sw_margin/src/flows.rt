@@ -6,7 +6,7 @@ ghost use Rattle.sw_margin.specs.Waits.{AreDependencies};
 use crate::bend::Bend;
 use crate::chosen::is_unanswered;
 use crate::trial::bend;
-use crate::way::answering;
+use crate::way::answered;
 use std::alloc::{AllocError, Global};
 use sw_config::Network;
 use sw_search::VerdictWorkers;
@@ -23,7 +23,7 @@ fn told_of<W: VerdictWorkers>(
     requires flow { flow < length network.now.flows }
     ensures { IfOk result (IsAnswer network.now flow) }
 {
-    let waits = answering(alloc, network, network.flow(flow))?;
+    let waits = answered(alloc, network, network.flow(flow))?;
     bend(workers, alloc, network, rows, flow, &waits)
 }
 

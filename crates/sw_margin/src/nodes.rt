@@ -11,7 +11,7 @@ use sw_config::Network;
 use sw_search::VerdictWorkers;
 
 // What waits for what where the node takes nothing while it wants to send.
-fn stall(network: &Network, node: u16) -> (u16, u16)
+pub(crate) fn stall(network: &Network, node: u16) -> (u16, u16)
     requires { node < length network.now.nodes }
     ensures stall { stall network.now node ≡ result ∷ [] }
     ensures within { IsWithin (length (ends_of network.now)) result }

@@ -4,9 +4,10 @@ ghost use Rattle.sw_topo.specs.Wiring.{partner};
 ghost use Rattle.sw_config.specs.Valid.{IsFlow};
 ghost use Rattle.sw_flow.specs.Followers.{followers_of};
 ghost use Rattle.sw_flow.specs.Places.{ends_of};
-ghost use Rattle.sw_margin.specs.Bends.{answering};
+ghost use Rattle.sw_margin.specs.Bends.{answered, answering, is_just_enough};
 ghost use Rattle.sw_margin.specs.Waits.{IsWithin};
 
+use crate::nodes::stall;
 use std::alloc::{AllocError, Global};
 use sw_config::{Flow, Network};
 use sw_flow::{Place, flow_start, followers_in};
@@ -43,12 +44,8 @@ fn add_waits_back(
     Ok(place)
 }
 
-/// What waits for what where the flow is answered, the replies going back over the links of its way.
-pub(crate) fn answering(
-    alloc: Global,
-    network: &Network,
-    flow: &Flow,
-) -> Result<Vec<(u16, u16)>, AllocError>
+// What waits for what where the flow is answered, the replies going back over the links of its way.
+fn answering(alloc: Global, network: &Network, flow: &Flow) -> Result<Vec<(u16, u16)>, AllocError>
     requires { IsFlow network.now.nodes flow.now }
     ensures waits { IfOk result (λ v. v.items ≡ answering network.now flow.now) }
     ensures within { IfOk result (λ v. All (IsWithin (length (ends_of network.now))) v.items) }
@@ -57,5 +54,37 @@ pub(crate) fn answering(
     let last = add_waits_back(network, flow, &mut waits)?;
     // Where the way ends: what comes there waits for the replies.
     waits.push((last.channel.number(), last.channel.partner().number()))?;
+    Ok(waits)
+}
+
+// May as many commands be unanswered at the node as replies may be owed?
+fn is_just_enough(network: &Network, node: u16) -> bool
+    requires { node < length network.now.nodes }
+    ensures { result ≡ is_just_enough network.now node }
+{
+    let Some(limit) = network.limit_at(node) else {
+        return false;
+    };
+    match network.target(node) {
+        Some(target) => limit == u32::from(target.slots),
+        None => limit == 1,
+    }
+}
+
+/// What waits for what where the flow is answered, the replies going back over the links of its way, and ending where it starts.
+pub(crate) fn answered(
+    alloc: Global,
+    network: &Network,
+    flow: &Flow,
+) -> Result<Vec<(u16, u16)>, AllocError>
+    requires { IsFlow network.now.nodes flow.now }
+    ensures waits { IfOk result (λ v. v.items ≡ answered network.now flow.now) }
+    ensures within { IfOk result (λ v. All (IsWithin (length (ends_of network.now))) v.items) }
+{
+    let mut waits = answering(alloc, network, flow)?;
+    if !is_just_enough(network, flow.from()) {
+        return Ok(waits);
+    }
+    waits.push(stall(network, flow.from()))?;
     Ok(waits)
 }
