@@ -115,7 +115,9 @@ fn needs(alloc: Global, network: &Network, step: &Step) -> Result<String, AllocE
 fn limit_words(alloc: Global, name: &str, limit: u32) -> Result<String, AllocError>
     ensures { IfOk result (λ s. string_bytes s ≡ limit_words name.now (Some limit)) }
 {
-    format!(in alloc; "a reply sent whole by {name}: as many commands to it are unanswered as its limit, {limit}")
+    format!(in alloc;
+        "a reply sent whole by {name}: as many commands to it are unanswered as its limit, {limit}"
+    )
 }
 
 // What a further command of the flow needs, if the node where it ends has a limit.
@@ -159,7 +161,11 @@ pub(crate) fn expected_line(
         StepRefusal::NotEnabled => told(alloc, "expected", needs(alloc, network, step)?.as_bytes()),
         StepRefusal::NotInFlow => told(alloc, "expected", NOT_IN_FLOW.as_bytes()),
         StepRefusal::OverLimit => {
-            told(alloc, "expected", over_limit(alloc, network, step)?.as_bytes())
+            told(
+                alloc,
+                "expected",
+                over_limit(alloc, network, step)?.as_bytes(),
+            )
         }
     }
 }
