@@ -56,6 +56,7 @@ replays_are_as_told d load limit o r is replayed =
       came_out = ap (λ (x : Report). x.came_out) same;
       stuck = λ e. locked.1 (is.stuck e).0;
       drained = λ e. not_so r.stuck (IsLockedUp net is.state) locked (none_undelivered net is.state o.undelivered is.undelivered (is.drained e).1);
+      waiting = λ e. not_so r.stuck (IsLockedUp net is.state) locked (none_undelivered net is.state o.undelivered is.undelivered (is.waiting e).delivered);
     }
 
 pub schedules_are_retold : ReadNetworksAreValid → ReadNamesAreNames → ListedAreShort → SchedulesAreRead → SchedulesAreRetold

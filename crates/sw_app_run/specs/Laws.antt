@@ -8,19 +8,20 @@ use Rattle.sw_schedule.specs.Replays.{IsReplayed}
 use Rattle.sw_schedule.specs.Reports.{Report}
 use Rattle.sw_run.specs.Outcomes.{IsOutcome, came_out_of, steps_of}
 use Rattle.sw_run.specs.declared.outcome.Outcome.{Outcome}
-use Rattle.sw_run.specs.declared.outcome.Stop.TheVariants.{Drained, Stuck}
+use Rattle.sw_run.specs.declared.outcome.Stop.TheVariants.{Drained, Stuck, Waiting}
 use Rattle.sw_schedule.specs.Schedule.{steps_of_text}
 use Rattle.sw_schedule.specs.Runs.{readable_text}
 use Rattle.sw_app_run.specs.ReplayAnswers.{IsReplayAnswer}
 
 -- all steps are made; as much is undelivered, and the same packets came out, in their order; the network is locked up where the run was
--- stuck, and is not where it was drained
+-- stuck, and is not where it was drained or waits
 pub record TellsAs (o : Outcome) (r : Report) : Type 0 where
   pub made : r.outcome ≡ Made (length (steps_of o))
   pub undelivered : r.remaining ≡ o.undelivered
   pub came_out : r.came_out ≡ came_out_of o
   pub stuck : o.stop ≡ Stuck → r.stuck ≡ true
   pub drained : o.stop ≡ Drained → r.stuck ≡ false
+  pub waiting : o.stop ≡ Waiting → r.stuck ≡ false
 
 -- so it is of each outcome of a run, and of each replay of its steps
 abbrev pub ReplaysAreAsTold : Type 0

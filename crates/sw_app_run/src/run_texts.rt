@@ -15,6 +15,7 @@ pub fn stop_word(stop: Stop) -> &'static str
     match stop {
         Stop::Drained => "drained",
         Stop::Stuck => "stuck",
+        Stop::Waiting => "waiting",
         Stop::JournalFull => "journal-full",
         Stop::Memory => "memory",
     }
@@ -26,7 +27,7 @@ pub fn stop_status(stop: Stop) -> u8
 {
     match stop {
         Stop::Drained => GOOD,
-        Stop::Stuck => LOCKED_UP,
+        Stop::Stuck | Stop::Waiting => LOCKED_UP,
         Stop::JournalFull | Stop::Memory => NO_ROOM,
     }
 }

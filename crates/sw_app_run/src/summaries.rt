@@ -24,7 +24,7 @@ fn shows_nothing<W: VerdictWorkers>(
 {
     match stop {
         Stop::Drained => Ok(!is_free(workers, alloc, network)?),
-        Stop::Stuck | Stop::JournalFull | Stop::Memory => Ok(false),
+        Stop::Stuck | Stop::Waiting | Stop::JournalFull | Stop::Memory => Ok(false),
     }
 }
 

@@ -17,6 +17,7 @@ pub(crate) fn show_gated(
     let stop = match outcome.stop {
         Stop::Drained => "drained",
         Stop::Stuck => "stuck",
+        Stop::Waiting => "waiting",
         Stop::JournalFull => "journal full",
         Stop::Memory => "out of memory",
     };
