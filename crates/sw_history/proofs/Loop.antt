@@ -71,7 +71,7 @@ module _ {R A : Type 0} (load : List LoadEntry) where
           let quiet = subst (λ (k : NetView R A). IsQuietNet k true) begins.0 stops.1 in
           let here = subst (λ (k : NetView R A). IsNet answer ports k) (stops.0 ∙ begins.0) sound in
           let is = is_drained load v (subst IsValid (sym same) valid) (subst (λ (e : Declaration). AreDeclared e load) (sym same) declared) cert (subst (λ (e : Declaration). IsDeadlockFreeWithinLimits (network_of e) cert) (sym same) free) begun counts steps count way
-              answer ports here (subst (λ (e : Declaration). IsAccepted (network_of e) cert) (sym same) acc) none_begin quiet in
+          answer ports here (subst (λ (e : Declaration). IsAccepted (network_of e) cert) (sym same) acc) none_begin quiet in
           subst (λ (k : NetView R A). IsDrained load k count) (sym (stops.0 ∙ begins.0)) is
 
   pub never_over : (v : NetView R A) (begun : List ℕ) (counts : Counts) (steps : List Step) (count : ℕ) → IsOnTheWay load v begun counts steps count → (d : Declaration) → v.declared ≡ d → IsValid d → AreDeclared d load → (cert : Certificate) → IsDeadlockFreeWithinLimits (network_of d) cert → length steps ≡ enough_limit (network_of d) (packets_of load) → ⊥

@@ -45,8 +45,8 @@ module _ {R A : Type 0} (load : List LoadEntry) (v w : NetView R A) (same : w.de
       let more = last_moves old step in
       let before = way.moves_are in
       let unanswered =
-          subst (AreCounted v.declared steps r.0) (sym (has_counted.2 r.0 r.2))
-          (counted_on v.declared valid load old way.state way.history counts way.unanswered all step r.0 r.1 next has_counted.0 (has_counted.1 way.state way.in_net))
+      subst (AreCounted v.declared steps r.0) (sym (has_counted.2 r.0 r.2))
+      (counted_on v.declared valid load old way.state way.history counts way.unanswered all step r.0 r.1 next has_counted.0 (has_counted.1 way.state way.in_net))
       in
       record {
         state = r.0;
