@@ -93,9 +93,9 @@ module _ (d : Declaration) (f : FlowEntry) where
       let own = outstanding_of d.nodes f.from in
       let apart = λ (m : ℕ) (other : m ≢ f.from). limit_kept n m (ap (λ b. b && f.from == m) here ∙ ne_eqb f.from m (λ e. other (sym e))) in
       let s : SplitAt (limit_from d n) (limit_from More n) f.from 0 (length d.nodes) =
-      split_at (limit_from d n) (limit_from More n) f.from apart 0 (length d.nodes) (omega arith) (omega (arith, within)) in
+          split_at (limit_from d n) (limit_from More n) f.from apart 0 (length d.nodes) (omega arith) (omega (arith, within)) in
       let same : limit_from More n f.from ≡ lesser own (plus (between d f.from n) (flow_outstanding f)) =
-      ap (lesser own) (between_more f.from n (ap (λ b. b && f.from == f.from) here ∙ eq-eqb f.from f.from refl)) in
+          ap (lesser own) (between_more f.from n (ap (λ b. b && f.from == f.from) here ∙ eq-eqb f.from f.from refl)) in
       ap (λ x. plus x (growth own (between d f.from n) (flow_outstanding f))) s.before
       ∙ rises own (between d f.from n) (flow_outstanding f) s.rest
       ∙ ap (λ x. plus x s.rest) (sym same) ∙ sym s.after
@@ -124,24 +124,24 @@ module _ (d : Declaration) (f : FlowEntry) (t : LimitRows) (a : AreLimits d t) (
   unanswered_more : f.reply ≡ None → AreLimits (More d f) (record t { others = set t.others f.to true })
   unanswered_more none =
       let here = λ (n : ℕ). ap (λ (o : Option ReplyEntry). is_some o && f.to == n) none in record {
-        few_nodes = a.few_nodes;
-        answering_size = a.answering_size;
-        others_size = length-set t.others f.to true ∙ a.others_size;
-        totals_size = a.totals_size;
-        answering = λ n lt. a.answering n lt ∙ sym (answering_more d f n ∙ ap (λ b. is_answering d n || b) (here n) ∙ or-false (is_answering d n));
-        others = λ n lt.
-            mark_more t.others f.to n (omega (arith, to, a.others_size))
-            ∙ ap (λ b. b || f.to == n) (a.others n lt)
-            ∙ sym (others_more d f n
-            ∙ (λ i. list_any (ends_unanswered n) (all_flows d) || (f.to == n && not (is_some (none i)) || list_any (ends_unanswered n) (replies_of f (none i))))
-            ∙ ap (λ b. list_any (ends_unanswered n) (all_flows d) || b) (plain_end (f.to == n)));
-        totals = λ n lt. a.totals n lt ∙ sym (total_kept d f n (here n));
-        sums = λ m n m_lt n_lt some. a.sums m n m_lt n_lt some ∙ sym (between_kept d f m n (ap (λ b. b && f.from == m) (here n)));
-        small = small_more (record t { others = set t.others f.to true }) (record {
-          totals = λ n. small_still (length d.flows) (get_or t.totals n None) (a.small.totals n);
-          sums = λ m n. small_still (length d.flows) (sum_between t.sums m n) (a.small.sums m n);
-        });
-      }
+    few_nodes = a.few_nodes;
+    answering_size = a.answering_size;
+    others_size = length-set t.others f.to true ∙ a.others_size;
+    totals_size = a.totals_size;
+    answering = λ n lt. a.answering n lt ∙ sym (answering_more d f n ∙ ap (λ b. is_answering d n || b) (here n) ∙ or-false (is_answering d n));
+    others = λ n lt.
+        mark_more t.others f.to n (omega (arith, to, a.others_size))
+        ∙ ap (λ b. b || f.to == n) (a.others n lt)
+        ∙ sym (others_more d f n
+        ∙ (λ i. list_any (ends_unanswered n) (all_flows d) || (f.to == n && not (is_some (none i)) || list_any (ends_unanswered n) (replies_of f (none i))))
+        ∙ ap (λ b. list_any (ends_unanswered n) (all_flows d) || b) (plain_end (f.to == n)));
+    totals = λ n lt. a.totals n lt ∙ sym (total_kept d f n (here n));
+    sums = λ m n m_lt n_lt some. a.sums m n m_lt n_lt some ∙ sym (between_kept d f m n (ap (λ b. b && f.from == m) (here n)));
+    small = small_more (record t { others = set t.others f.to true }) (record {
+      totals = λ n. small_still (length d.flows) (get_or t.totals n None) (a.small.totals n);
+      sums = λ m n. small_still (length d.flows) (sum_between t.sums m n) (a.small.sums m n);
+    });
+  }
 
   -- its packets are commands
   module _ (r : ReplyEntry) (has : f.reply ≡ Some r) (own_small : IfSome (outstanding_of d.nodes f.from) (λ l. l ≤ 65535)) (small : IfSome r.outstanding (λ l. l ≤ 65535)) where
@@ -194,7 +194,7 @@ module _ (d : Declaration) (f : FlowEntry) (t : LimitRows) (a : AreLimits d t) (
     sum_at b m n known m_lt n_lt some = elim (cases_eq n f.to) [
       | inl same ↦
           let counted : is_some total ≡ true =
-          ap is_some (sym (ap (λ k. get_or (set t.totals f.to total) k None) same ∙ get_or-set_same t.totals f.to total None (omega (arith, to, a.totals_size)))) ∙ some in
+              ap is_some (sym (ap (λ k. get_or (set t.totals f.to total) k None) same ∙ get_or-set_same t.totals f.to total None (omega (arith, to, a.totals_size)))) ∙ some in
           let before : is_some (get_or t.totals f.to None) ≡ true = some_before (get_or t.totals f.to None) _ counted in
           elim (cases_eq m f.from) [
             | inl start ↦
@@ -273,7 +273,6 @@ own_small nodes n all = by (slice_get nodes n) refl
     high : (o : Option ℕ) → IfSome o IsOutstanding → IfSome o (λ l. l ≤ 65535)
     high None is = tt
     high (Some l) is = is.high
-
     by : (o : Option NodeEntry) → slice_get nodes n ≡ o → IfSome (option_and_then (λ (e : NodeEntry). e.outstanding) o) (λ l. l ≤ 65535)
     by None at = tt
     by (Some e) at = high e.outstanding (All-at IsNode nodes n e at all).outstanding

@@ -82,11 +82,11 @@ module _ (g h : ℕ → Option ℕ) (m : ℕ) (same : (k : ℕ) → k ≢ m → 
     }
     | inr other ↦
         let later = split_at (a + 1) n (omega (arith, low, other)) (omega (arith, high)) in record {
-          rest = plus (g a) later.rest;
-          before = sum_cons (g a) (map g (range_with_len (a + 1) n)) ∙ ap (plus (g a)) later.before ∙ plus-swap (g a) (g m) later.rest;
-          after = sum_cons (h a) (map h (range_with_len (a + 1) n)) ∙ ap (plus (h a)) later.after ∙ plus-swap (h a) (h m) later.rest
-              ∙ ap (λ x. plus (h m) (plus x later.rest)) (same a other);
-        }
+      rest = plus (g a) later.rest;
+      before = sum_cons (g a) (map g (range_with_len (a + 1) n)) ∙ ap (plus (g a)) later.before ∙ plus-swap (g a) (g m) later.rest;
+      after = sum_cons (h a) (map h (range_with_len (a + 1) n)) ∙ ap (plus (h a)) later.after ∙ plus-swap (h a) (h m) later.rest
+          ∙ ap (λ x. plus (h m) (plus x later.rest)) (same a other);
+    }
   ]
 
 -- ---- growth

@@ -35,7 +35,7 @@ each_limited test (g ∷ fs) zero f some at passes =
     let same : g ≡ f = same_Some g f at in
     let here : test g ≡ true = ap test same ∙ passes in
     let first : is_some (sum_of_limits (flow_outstanding g ∷ map flow_outstanding (filter test fs))) ≡ true =
-    ap (λ b. is_some (sum_of_limits (map flow_outstanding (cond b (g ∷ filter test fs) (filter test fs))))) (sym here) ∙ some in
+        ap (λ b. is_some (sum_of_limits (map flow_outstanding (cond b (g ∷ filter test fs) (filter test fs))))) (sym here) ∙ some in
     ap (λ x. is_some (flow_outstanding x)) (sym same)
     ∙ some_before (flow_outstanding g) (sum_of_limits (map flow_outstanding (filter test fs))) (ap is_some (sym (sum_cons (flow_outstanding g) (map flow_outstanding (filter test fs)))) ∙ first)
 each_limited test (g ∷ fs) (suc i) f some at passes = each_limited test fs i f (by (test g) some) at passes
@@ -59,7 +59,7 @@ module _ (d : Declaration) where
       let parts = and_parts (is_some f.reply) (f.to == n) answered in
       let total = (total_is (is_answering d n) (total_at d n) l limit).1 in
       let s : SplitAt (limit_from d n) (limit_from d n) f.from 0 (length d.nodes) =
-      split_at (limit_from d n) (limit_from d n) f.from (λ k other. refl) 0 (length d.nodes) (omega arith) (omega (arith, (All-at (IsFlow d.nodes) d.flows i f at flows).from)) in
+          split_at (limit_from d n) (limit_from d n) f.from (λ k other. refl) 0 (length d.nodes) (omega arith) (omega (arith, (All-at (IsFlow d.nodes) d.flows i f at flows).from)) in
       let one : is_some (limit_from d n f.from) ≡ true = some_before (limit_from d n f.from) s.rest (ap is_some (sym s.before ∙ total)) in
       and_from (is_some f.reply) (is_some (flow_outstanding f) || is_some own) parts.0
       (by own (sum_of_limits (map flow_outstanding (commands_from d f.from n))) one
@@ -127,12 +127,12 @@ module _ (d : Declaration) where
       let at : slice_get d.flows one.0 ≡ Some f = slice_get_read d.flows (length d.flows) one.0 f refl one.2 (sym one.3) in
       let m = f.from in
       let s : SplitAt (limit_from d n) (limit_from d n) m 0 (length d.nodes) =
-      split_at (limit_from d n) (limit_from d n) m (λ k other. refl) 0 (length d.nodes) (omega arith) (omega (arith, (All-at (IsFlow d.nodes) d.flows one.0 f at valid.flows).from)) in
+          split_at (limit_from d n) (limit_from d n) m (λ k other. refl) 0 (length d.nodes) (omega arith) (omega (arith, (All-at (IsFlow d.nodes) d.flows one.0 f at valid.flows).from)) in
       let part = some_part (limit_from d n m) s.rest l (sym s.before ∙ parts.1) in
       let few = part.2 in
       let low : 1 ≤ part.0 = lesser_at_least (outstanding_of d.nodes m) (sum_of_limits (map flow_outstanding (commands_from d m n))) part.0 (node_at_least valid m)
-      (λ k sum. sum_at_least (λ (g : FlowEntry). is_answered_at n g && g.from == m) d.flows valid.flows one.0 f k sum at (and_from (is_answered_at n f) (f.from == m) one.4 (eq-eqb f.from f.from refl)))
-      part.1 in
+          (λ k sum. sum_at_least (λ (g : FlowEntry). is_answered_at n g && g.from == m) d.flows valid.flows one.0 f k sum at (and_from (is_answered_at n f) (f.from == m) one.4 (eq-eqb f.from f.from refl)))
+          part.1 in
       omega (arith, low, few)
 
   -- ---- what ends at a node with a limit
@@ -243,7 +243,7 @@ module _ (d : Declaration) where
         → (nat_lt l slots || l == slots && not others) ≡ always_takes d n
     takes_told n l slots others limit are told =
         let all : not others ≡ all_limited_at d n =
-        ap not (told ∙ a.others n (within_limit n l limit)) ∙ sym (limited_unless_unanswered valid.flows n l limit) in
+            ap not (told ∙ a.others n (within_limit n l limit)) ∙ sym (limited_unless_unanswered valid.flows n l limit) in
         (λ i. nat_lt l (are i) || l == are i && all i)
         ∙ sym (ap (λ o. option_map_or (λ k. nat_lt k (slots_of (target_of d.nodes n)) || k == slots_of (target_of d.nodes n) && all_limited_at d n) o false) limit)
 

@@ -113,8 +113,7 @@ impl LimitTable {
         let Some(more) = growth(own, sum, outstanding) else {
             return Ok(None);
         };
-        self.sums
-            .insert(pair_key(from, to), plus(sum, outstanding))?;
+        self.sums.insert(pair_key(from, to), plus(sum, outstanding))?;
         Ok(Some(total + more))
     }
 
