@@ -64,19 +64,6 @@ impl<'a, W: RunIdentity> LockedJournal<'a, W> {
         let _over = self.notes.end(Stop::Memory);
     }
 
-    /// The node that emits by the step, and how many replies it owes, if only so many commands may be
-    /// unanswered there.
-    #[inline(always)]
-    fn owing(&self, step: &Step) -> Option<(u16, usize)> {
-        let Step::Emit(node) = step else {
-            return None;
-        };
-        match self.network.limit_at(*node) {
-            Some(_) => Some((*node, self.journal.owed(*node))),
-            None => None,
-        }
-    }
-
     /// Whether a reply was sent whole since this was asked last, at a node where only so many commands may
     /// be unanswered: then nodes may begin packets that they could not.
     pub(crate) fn has_settled(&mut self) -> bool {
@@ -97,11 +84,9 @@ impl<'a, W: RunIdentity> LockedJournal<'a, W> {
         ensures arbiters { locked.new.arbiters.items ≡ locked.old.arbiters.items }
     {
         let sent = self.notes.sent_over(end, &step);
-        let owing = self.owing(&step);
+        let owing = owing(self.network, &self.journal, &step);
         let made = self.journal.commit(alloc, &mut locked.cell, step);
-        if let Some((node, owed)) = owing {
-            self.notes.settles(self.journal.owed(node) < owed);
-        }
+        self.notes.settles(owes_less(&self.journal, owing));
         self.notes.after(made, sent)
     }
 
@@ -229,6 +214,28 @@ impl<'a, W: RunIdentity> LockedJournal<'a, W> {
                 Err(error)
             }
         }
+    }
+}
+
+/// The node that emits by the step, and how many replies it owes, if only so many commands may be
+/// unanswered there.
+#[inline(always)]
+fn owing(network: &Network, journal: &Journal<'_>, step: &Step) -> Option<(u16, usize)> {
+    let Step::Emit(node) = step else {
+        return None;
+    };
+    match network.limit_at(*node) {
+        Some(_) => Some((*node, journal.owed(*node))),
+        None => None,
+    }
+}
+
+/// Whether the node owes fewer replies than that.
+#[inline(always)]
+fn owes_less(journal: &Journal<'_>, owing: Option<(u16, usize)>) -> bool {
+    match owing {
+        Some((node, owed)) => journal.owed(node) < owed,
+        None => false,
     }
 }
 
