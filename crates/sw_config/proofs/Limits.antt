@@ -1,9 +1,9 @@
 -- Which flows are limited, which nodes have a limit, and which may make others wait.
-use Rattle.std.proofs.Common.{◌≡◌, ℕ, zero, ◌⊎◌, suc, ◌*◌, ◌<◌, ◌≤◌, ◌==◌, ◌&&◌, ◌||◌, Bool, true, false, not, cond, List, [], ◌∷◌, length, map, filter, get_or, All, Option, Some, None, is_some, refl, sym, subst, ap, ◌∙◌, inl, inr, arith, zero-add, ◌≢◌, ◌+◌, ◌++◌}
+use Rattle.std.proofs.Common.{◌≡◌, ℕ, zero, ◌⊎◌, suc, ◌*◌, ◌<◌, ◌≤◌, ◌==◌, ◌&&◌, ◌||◌, Bool, true, false, not, cond, List, [], ◌∷◌, length, map, filter, get_or, All, Option, Some, None, is_some, refl, sym, subst, ap, ◌∙◌, inl, inr, arith, zero-add, ◌+◌}
 use Rattle.std.specs.Prelude.{IfSome, slice_get, nat_lt, option_and_then, if◌then◌else◌, min}
 use Rattle.std.specs.List.{list_all, list_any, range_with_len}
 use Rattle.std.specs.Option.{option_map_or}
-use Rattle.std.proofs.Math.Bool.{and-true, or-false}
+use Rattle.std.proofs.Math.Bool.{and-true}
 use Rattle.std.proofs.lemmas.Bool.{and_from, and_parts, and_right, cases_lt, eq-eqb, eqb-true, false_from_ne_true, false≢true, ltb-true, or_cases, or_right}
 use Rattle.std.proofs.Math.Nat.{le-min}
 use Rattle.std.proofs.lemmas.List.{get_or_past}
@@ -274,6 +274,10 @@ module _ (d : Declaration) where
   pub waits_marked : IsValid d → (n : ℕ) → may_make_wait d n ≡ true → get_or (waiting_marks d) n false ≡ true
   waits_marked valid n waits = waiting_mark_is n (answering_within d valid n (waiting_answers n waits)) ∙ waits
 
+  -- a node with a limit is one of the network's
+  pub limit_within : IsValid d → (n l : ℕ) → limit_at d n ≡ Some l → n < length d.nodes
+  limit_within valid n l limit = answering_within d valid n (total_is (is_answering d n) (total_at d n) l limit).0
+
   -- ---- what the table tells
 
   module _ (t : LimitRows) (a : AreLimits d t) (valid : IsValid d) where
@@ -292,25 +296,21 @@ module _ (d : Declaration) where
         by false is = refl
         by true is = a.totals n (answering_within d valid n is)
 
-    -- a node with a limit answers
-    pub within_limit : (n l : ℕ) → limit_at d n ≡ Some l → n < length d.nodes
-    within_limit n l limit = answering_within d valid n (total_is (is_answering d n) (total_at d n) l limit).0
-
     pub within_told : (n : ℕ) (o : Option ℕ) → o ≡ limit_at d n → IfSome o (λ l. n < length d.nodes)
     within_told n None is = tt
-    within_told n (Some l) is = within_limit n l (sym is)
+    within_told n (Some l) is = limit_within valid n l (sym is)
 
     pub takes_told : (n l slots : ℕ) (others : Bool) → limit_at d n ≡ Some l → slots ≡ slots_of (target_of d.nodes n) → others ≡ get_or t.others n false
         → (nat_lt l slots || l == slots && not others) ≡ always_takes d n
     takes_told n l slots others limit are told =
         let all : not others ≡ all_limited_at d n =
-        ap not (told ∙ a.others n (within_limit n l limit)) ∙ sym (limited_unless_unanswered valid.flows n l limit) in
+        ap not (told ∙ a.others n (limit_within valid n l limit)) ∙ sym (limited_unless_unanswered valid.flows n l limit) in
         (λ i. nat_lt l (are i) || l == are i && all i)
         ∙ sym (ap (λ o. option_map_or
         (λ k. nat_lt k (slots_of (target_of d.nodes n)) || k == slots_of (target_of d.nodes n) && all_limited_at d n) o false) limit)
 
     pub small_limit : (n l : ℕ) → limit_at d n ≡ Some l → l ≤ 4096 * 65535
     small_limit n l limit =
-        let told : get_or t.totals n None ≡ Some l = a.totals n (within_limit n l limit) ∙ (total_is (is_answering d n) (total_at d n) l limit).1 in
+        let told : get_or t.totals n None ≡ Some l = a.totals n (limit_within valid n l limit) ∙ (total_is (is_answering d n) (total_at d n) l limit).1 in
         let small : l ≤ length d.flows * 65535 = subst (λ o. IfSome o (λ k. k ≤ length d.flows * 65535)) told (a.small.totals n) in
         omega (arith, small, valid.few_flows)

@@ -8,7 +8,7 @@ use Rattle.std.proofs.lemmas.Option.{same_Some, slice_get_within}
 use Rattle.std.specs.Option.{option_map_or}
 use Rattle.std.specs.Prelude.{if◌then◌else◌, min, option_map, slice_get, slice_index, slice_set, ◌&&◌, ◌==◌}
 use Rattle.sw_char.specs.declared.nchar.End.{End}
-use Rattle.sw_config.proofs.AnsweringNodes.{answering_within}
+use Rattle.sw_config.proofs.Limits.{limit_within}
 use Rattle.sw_config.proofs.Limits.{limit_at_least, limited_flow}
 use Rattle.sw_config.specs.Entries.{Declaration, FlowEntry, ReplyEntry, all_flows, is_answering, reply_flows}
 use Rattle.sw_config.specs.Limits.{is_limited, limit_at}
@@ -56,17 +56,9 @@ min_less c a m few = ⊎_elim
 below_from : (a b : ℕ) → nat_lt a b ≡ true → a < b
 below_from a b is = ⊎_elim (λ lt. lt) (λ ge. absurd (false≢true (sym (le-ltb a b ge) ∙ is))) (cases_lt a b)
 
-answers_if : (b : Bool) (o : Option ℕ) (l : ℕ) → (if b then o else None) ≡ Some l → b ≡ true
-answers_if true o l is = refl
-answers_if false o l is = absurd cc
-
 module _ (d : Declaration) (valid : IsValid d) where
   abbrev net : Network
   net = network_of d
-
-  -- a node with a limit is one of the network's
-  pub limited_within : (n limit : ℕ) → limit_at d n ≡ Some limit → n < length d.nodes
-  limited_within n limit is = answering_within d valid n (answers_if (is_answering d n) _ limit is)
 
   pub limit_is : (n : ℕ) → net.limit n ≡ limit_at d n
   unfolding network_of
@@ -198,7 +190,7 @@ module _ (d : Declaration) (valid : IsValid d) where
       begun_by (Some p) is =
           let some = some_commanded b packet p is in
           let long = (are.by_node).commands in
-          let inside = limited_within p.0 p.1 some.1 in
+          let inside = limit_within d valid p.0 p.1 some.1 in
           record {
             by_node = record { commands = length-set c.commands p.0 (slice_index c.commands p.0 + 1) ∙ long; replies = (are.by_node).replies };
             commands = λ n limit has.
@@ -271,7 +263,7 @@ module _ (d : Declaration) (valid : IsValid d) where
               let owed : before ≡ s.owed m = watched.owes m before refl in
               let less : nat_lt (t.owed n) (s.owed n) ≡ true = ap (λ k. nat_lt (t.owed k) (s.owed k)) (sym same) ∙ ap (nat_lt (t.owed m)) (sym owed) ∙ is in
               let one : one_sent (s.owed n) (t.owed n) ≡ 1 = ap (λ k. if k then 1 else 0) less in
-              let inside : n < length c.replies = subst (λ k. n < k) (sym (are.by_node).replies) (limited_within n limit has) in
+              let inside : n < length c.replies = subst (λ k. n < k) (sym (are.by_node).replies) (limit_within d valid n limit has) in
               let set : slice_index more n ≡ min (slice_index c.replies n + 1) 4294967295 =
               ap (slice_index more) (sym same) ∙ get_or-set_same c.replies m (min (slice_index c.replies m + 1) 4294967295) 0 (subst (λ k. k < length c.replies) (sym same) inside) ∙ ap (λ k. min (slice_index c.replies k + 1) 4294967295) same in
               after_is true is ∙ set ∙ ap (λ k. min (slice_index c.replies n + k) 4294967295) (sym one))
@@ -315,7 +307,7 @@ module _ (d : Declaration) (valid : IsValid d) where
             let came : CameOut s n cut.0 = (cut.1, cut.2) in
             let r = are.replies n limit cut.0 has came in
             let on = counted_replies w watched n limit has in
-            let inside : n < net.nodes = subst (λ k. n < k) (sym (nodes_are d)) (limited_within n limit has) in
+            let inside : n < net.nodes = subst (λ k. n < k) (sym (nodes_are d)) (limit_within d valid n limit has) in
             let sum = replies_sent net (are_networks d valid) steps s run step t leads n inside cut.0 now came out in
             let was = r.1 in (
               r.0 + one_sent (s.owed n) (t.owed n),
@@ -342,7 +334,7 @@ module _ (d : Declaration) (valid : IsValid d) where
         room_by None is room limit came has out =
             let n = (net.flow f).to in
             let limited : limit_at d n ≡ Some limit = sym (limit_is n) ∙ has in
-            let inside : n < net.nodes = subst (λ k. n < k) (sym (nodes_are d)) (limited_within n limit limited) in
+            let inside : n < net.nodes = subst (λ k. n < k) (sym (nodes_are d)) (limit_within d valid n limit limited) in
             let before = kept_after_each_step net (are_networks d valid) steps s h.run h.keeps n inside limit came has out in
             let more = one_more steps f cargo end n in
             let none : one_command n it ≡ 0 = ap (λ k. if k then 1 else 0) (none_commanded it packet is n limit limited) in

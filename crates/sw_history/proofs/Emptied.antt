@@ -5,11 +5,11 @@ use Rattle.std.proofs.lemmas.List.{nil_from_length}
 use Rattle.std.proofs.lemmas.List.Sums.{count_by-le-length, sum_by-cons}
 use Rattle.std.specs.Prelude.{slice_get}
 use Rattle.sw_char.specs.declared.nchar.NChar.TheVariants.{Data, Eop}
-use Rattle.sw_config.proofs.Limits.{limit_at_least}
+use Rattle.sw_config.proofs.Limits.{limit_within, limit_at_least}
 use Rattle.sw_config.specs.Entries.{Declaration}
 use Rattle.sw_config.specs.Valid.{IsValid}
 use Rattle.sw_history.proofs.Begun.{declared_at}
-use Rattle.sw_history.proofs.Commands.{limit_is, limited_within, one_more}
+use Rattle.sw_history.proofs.Commands.{limit_is, one_more}
 use Rattle.sw_history.proofs.Follows.{follows_where_possible}
 use Rattle.sw_history.specs.Next.{AreKeptBack, BeginsOne, begin_of}
 use Rattle.sw_load.proofs.Grown.{slice_get-behind}
@@ -99,7 +99,7 @@ module _ (d : Declaration) (valid : IsValid d) (load : List LoadEntry) (steps : 
   keeps_next cert acc b limit came has out =
       let n = (net.flow b.flow).to in
       let limited = sym (limit_is d valid n) ∙ has in
-      let inside = subst (λ k. n < k) (sym (nodes_are d)) (limited_within d valid n limit limited) in
+      let inside = subst (λ k. n < k) (sym (nodes_are d)) (limit_within d valid n limit limited) in
       let zero_is = nothing_is_unanswered net cert (are_networks d valid) acc steps s history.run empty n inside came out in
       let least = limit_at_least d valid n limit limited in
       let more = one_more d valid steps b.flow b.cargo b.end n in

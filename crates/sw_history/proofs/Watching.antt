@@ -1,9 +1,9 @@
 -- What is to be counted behind the steps of a link end.
 use Rattle.std.proofs.Common.{None, Some, ap, arith, false, length, subst, sym, ℕ, ◌<◌, ◌∙◌, ◌≡◌, ◌≤◌}
+use Rattle.sw_config.proofs.Limits.{limit_within}
 use Rattle.sw_config.specs.Entries.{Declaration}
 use Rattle.sw_config.specs.Limits.{limit_at}
 use Rattle.sw_config.specs.Valid.{IsValid}
-use Rattle.sw_history.proofs.Commands.{limited_within}
 use Rattle.sw_net.proofs.CellNetwork.{nodes_are}
 use Rattle.sw_history.specs.Unanswered.{IsCountingAt, IsCountingAtEnd, IsWatched, OwesAt}
 use Rattle.sw_history.specs.declared.unanswered.Counting.{Counting}
@@ -43,14 +43,14 @@ pub outside : (d : Declaration) → IsValid d → (s : State) (node : ℕ) → l
 outside d valid s node past = watches_nothing d s (Emit node)
     (λ n limit is has.
     let same : node ≡ n = cc in
-    let lt = limited_within d valid n limit has in
+    let lt = limit_within d valid n limit has in
     absurd (omega arith))
 
 module _ {R A : Type 0} (v : NetView R A) (valid : IsValid v.declared) (e : ℕ) where
   -- the node that emits stands where its link end starts
   emitter : (m limit : ℕ) → link_end_of (network_of v.declared) (Emit m) ≡ e → limit_at v.declared m ≡ Some limit → (network_of v.declared).start_of e ≡ AtNode m
   emitter m limit belongs has =
-      let inside = subst (λ k. m < k) (sym (nodes_are v.declared)) (limited_within v.declared valid m limit has) in
+      let inside = subst (λ k. m < k) (sym (nodes_are v.declared)) (limit_within v.declared valid m limit has) in
       ap (network_of v.declared).start_of (sym belongs) ∙ ((are_networks v.declared valid).out_starts m inside).1
 
   pub at_switch : (w : ℕ) → (network_of v.declared).start_of e ≡ AtSwitch w → IsCountingAtEnd v e Nothing

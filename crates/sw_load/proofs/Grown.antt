@@ -2,12 +2,11 @@
 use Rattle.std.proofs.Common.{◌≡◌, ◌++◌, ◌+◌, ◌-◌, ◌≤◌, ◌∷◌, ◌∙◌, [], ℕ, List, Some, count_by, length, refl, sym, ap, subst, append_assoc, append-nil, ⊎_elim}
 use Rattle.std.specs.Prelude.{nat_eq, slice_get}
 use Rattle.std.proofs.lemmas.Bool.{cases_eq, eq-eqb, ne_eqb}
-use Rattle.std.proofs.lemmas.Grind.{flat_map-append}
 use Rattle.std.proofs.lemmas.List.Elements.{filter-append}
 use Rattle.sw_char.specs.declared.nchar.End.{End}
 use Rattle.sw_load.specs.History.{BeginsNext, IsFront, IsHistory, KeepsLimit, packets_at}
 use Rattle.sw_machine.proofs.Determined.{determined}
-use Rattle.sw_machine.proofs.Limits.{keeps_begin, keeps_push}
+use Rattle.sw_machine.proofs.Limits.{beginnings_push, keeps_begin, keeps_push}
 use Rattle.sw_machine.proofs.RunLists.{run_append}
 use Rattle.sw_machine.specs.Begun.{Begun, beginning, beginnings}
 use Rattle.sw_machine.specs.Limits.{IsWithinLimit, KeepsLimits, is_command_at, is_command_to}
@@ -16,9 +15,6 @@ use Rattle.sw_machine.specs.Packets.{IsCut}
 use Rattle.sw_machine.specs.Runs.{Run}
 use Rattle.sw_machine.specs.State.{State, empty}
 use Rattle.sw_machine.specs.Steps.{Accept, Arrive, Begin, Drop, Emit, Fct, FctIn, Forward, Grant, Leads, Reply, Spill, Step}
-
-begun_last : (steps : List Step) (step : Step) → beginnings (steps ++ step ∷ []) ≡ beginnings steps ++ beginning step
-begun_last steps step = flat_map-append beginning steps (step ∷ []) ∙ ap (λ l. beginnings steps ++ l) (append-nil (beginning step))
 
 pub slice_get-behind : {A : Type 0} (xs ys : List A) → slice_get (xs ++ ys) (length xs) ≡ slice_get ys 0
 slice_get-behind [] ys = refl
@@ -94,7 +90,7 @@ module _ (net : Network) (packets : List Begun) where
   at n ps = packets_at net n ps
 
   pub begun_at_last : (steps : List Step) (step : Step) (n : ℕ) → at n (beginnings (steps ++ step ∷ [])) ≡ at n (beginnings steps) ++ at n (beginning step)
-  begun_at_last steps step n = ap (at n) (begun_last steps step) ∙ filter-append (λ b. nat_eq (net.flow b.flow).from n) (beginnings steps) (beginning step)
+  begun_at_last steps step n = ap (at n) (beginnings_push steps step) ∙ filter-append (λ b. nat_eq (net.flow b.flow).from n) (beginnings steps) (beginning step)
 
   pub its_own : (b : Begun) (n : ℕ) → (net.flow b.flow).from ≡ n → at n (b ∷ []) ≡ b ∷ []
   its_own b n e = rw (eq-eqb (net.flow b.flow).from n e) refl

@@ -3,7 +3,7 @@ use Rattle.std.proofs.Common.{◌≡◌, ℕ, zero, suc, ◌==◌, ◌&&◌, ◌
 use Rattle.std.specs.Prelude.{nat_lt, not, slice_get}
 use Rattle.std.specs.List.{list_all}
 use Rattle.std.specs.Option.{option_map_or}
-use Rattle.std.proofs.lemmas.Bool.{and_from, and_parts, cases_Bool, cases_eq, eqb-true, false_from_ne_true}
+use Rattle.std.proofs.lemmas.Bool.{and_from, and_parts, cases_Bool, cases_eq, eqb-true, false_from_ne_true, or_left, or_right}
 use Rattle.std.proofs.lemmas.Option.{slice_get_within}
 use Rattle.sw_flow.specs.Entries.{Declaration, FlowEntry, all_flows, is_answering, target_of}
 use Rattle.sw_flow.specs.Limits.{all_limited_at, always_takes, is_limited, limit_at, may_make_wait}
@@ -62,13 +62,6 @@ module _ (d : Declaration) (n : ℕ) where
         let both = and_parts (l == slots) (all_limited_at d n) rest in
         record { limit = l; is = is; few = inr (eqb-true l slots both.0, limited_in both.1) }
   ]
-
-  or_left : (a b : Bool) → a ≡ true → (a || b) ≡ true
-  or_left a b e = rw e refl
-
-  or_right : (a b : Bool) → b ≡ true → (a || b) ≡ true
-  or_right true b e = refl
-  or_right false b e = e
 
   takes_back : AlwaysTakes (network_of d) n → always_takes d n ≡ true
   unfolding network_of

@@ -6,7 +6,7 @@ use Rattle.std.proofs.Math.Nat.{min-eq_left, min-eq_right}
 use Rattle.std.proofs.lemmas.Bool.{and_from, cases_eq, cases_lt, ltb-true}
 use Rattle.std.proofs.lemmas.List.{get_or-replicate, get_or_past, length-replicate}
 use Rattle.sw_char.specs.declared.nchar.End.{End}
-use Rattle.sw_config.proofs.AnsweringNodes.{answering_within}
+use Rattle.sw_config.proofs.Limits.{limit_within}
 use Rattle.sw_config.proofs.Limits.{limited_flow}
 use Rattle.sw_config.specs.Entries.{Declaration, FlowEntry, ReplyEntry, all_flows, is_answered_at, is_answering, reply_flows}
 use Rattle.sw_config.specs.Limits.{is_limited, limit_at}
@@ -153,13 +153,6 @@ module _ (d : Declaration) (valid : IsValid d) where
 
   in_net : (n : ℕ) → n < length d.nodes → n < (network_of d).nodes
   in_net n lt = subst (λ k. n < k) (same_nodes d) lt
-
-  limited_node : (n limit : ℕ) → limit_at d n ≡ Some limit → n < length d.nodes
-  limited_node n limit is = by (is_answering d n) refl
-    where
-      by : (t : Bool) → is_answering d n ≡ t → n < length d.nodes
-      by true answers = answering_within d valid n answers
-      by false none = let no : None ≡ Some limit = rw none at is in absurd cc
 
   -- the entry of a declared flow
   pub record Has (flow : ℕ) (f : FlowEntry) : Type 0 where
@@ -377,7 +370,7 @@ module _ (d : Declaration) (valid : IsValid d) where
       begun = λ n limit at.
           let entry = entry_of flow leads.declared.declared in
           let small = counts.few n in
-          let lt : n < length d.nodes = limited_node n limit at in
+          let lt : n < length d.nodes = limit_within d valid n limit at in
           counted_more flow cargo end leads.declared entry.0 entry.1 n limit at c counts.all_begun lt (omega (arith, small, few))
           ∙ ap (λ k. k + (if is_answered_at n entry.0 then 1 else 0)) (counts.begun n limit at)
           ∙ sym (commands_more flow cargo end leads.declared entry.0 entry.1 n limit at steps);

@@ -6,6 +6,7 @@ use Rattle.std.proofs.lemmas.Bool.{cases_eq, cases_lt}
 use Rattle.std.proofs.lemmas.List.Elements.{All-from_recursion}
 use Rattle.std.proofs.lemmas.Option.{same_Some, slice_get_within}
 use Rattle.sw_config.proofs.Flows.{All-at}
+use Rattle.sw_graph.proofs.Adding.{not_known}
 use Rattle.sw_config.specs.Entries.{Declaration, FlowEntry, NodeEntry}
 use Rattle.sw_config.specs.Limits.{HasNoLimits, flow_outstanding, outstanding_of}
 
@@ -15,10 +16,6 @@ by_place P (x ∷ xs) each = (each 0 x refl, by_place P xs (λ k y at. each (suc
 
 all_by_place : {X : Type 0} (P : X → Type 0) (xs : List X) → ((k : ℕ) (x : X) → slice_get xs k ≡ Some x → P x) → All P xs
 all_by_place P xs each = All-from_recursion P xs (by_place P xs each)
-
-not_some : (o : Option ℕ) → is_some o ≡ false → o ≡ None
-not_some None is = refl
-not_some (Some x) is = absurd cc
 
 some_is_not_none : (o : Option ℕ) → is_some o ≡ true → o ≡ None → ⊥
 some_is_not_none o is none = let both : false ≡ true = sym (ap is_some none) ∙ is in cc
@@ -34,7 +31,7 @@ NoneOfNodes nodes n = (k : ℕ) → k < n → outstanding_of nodes k ≡ None
 
 pub node_more : (nodes : List NodeEntry) (n : ℕ) (o : Option ℕ) → o ≡ outstanding_of nodes n → is_some o ≡ false → NoneOfNodes nodes n → NoneOfNodes nodes (n + 1)
 node_more nodes n o is none before k lt = ⊎_elim
-    (λ same. ap (outstanding_of nodes) same ∙ sym is ∙ not_some o none)
+    (λ same. ap (outstanding_of nodes) same ∙ sym is ∙ not_known o none)
     (λ ne. before k (below_next k n lt ne))
     (cases_eq k n)
 
@@ -62,7 +59,7 @@ pub flow_more : (flows : List FlowEntry) (n : ℕ) (f : FlowEntry) (b : Bool) �
 flow_more flows n f b here is none before k g lt at = ⊎_elim
     (λ same.
     let equal : f ≡ g = same_Some f g (sym here ∙ sym (ap (slice_get flows) same) ∙ at) in
-    ap flow_outstanding (sym equal) ∙ not_some (flow_outstanding f) (sym is ∙ none))
+    ap flow_outstanding (sym equal) ∙ not_known (flow_outstanding f) (sym is ∙ none))
     (λ ne. before k g (below_next k n lt ne) at)
     (cases_eq k n)
 
