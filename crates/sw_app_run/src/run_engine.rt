@@ -12,7 +12,7 @@ use sw_run::Gate;
 use sw_text::{Ended, read_two, tell_answer, tell_two_unread};
 
 /// What comes of a run of the second text's load on the network of the first text, by so many workers and in at most so many steps:
-/// 0 where all of it was delivered, 4 where the network is locked up, and 5 where memory or the limit on steps ended the run.
+/// 0 where all of it was delivered, 4 where the network is locked up or the run waits, and 5 where memory or the limit on steps ended the run.
 pub fn run<N: Read, L: Read, W: Write, G: Gate + Sync, T: Threads + Wait + Sync>(
     rt: &T,
     alloc: Global,

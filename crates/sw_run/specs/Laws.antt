@@ -5,6 +5,7 @@ use Rattle.sw_load.specs.Limit.{enough_limit}
 use Rattle.sw_load.specs.Load.{LoadEntry}
 use Rattle.sw_machine.specs.Begun.{AsOften, Begun, is_answered_at, is_reply_at, sent_to}
 use Rattle.sw_machine.specs.Certificate.{Certificate, IsAccepted}
+use Rattle.sw_machine.specs.Limits.{HasNoLimits}
 use Rattle.sw_machine.specs.Network.{Network}
 use Rattle.sw_machine.specs.Packets.{Packet}
 use Rattle.sw_machine.specs.Model.{network_of}
@@ -24,6 +25,10 @@ IsNotStuck d load limit o = o.stop ≡ Stuck → ⊥
 -- and none waits for ever
 abbrev pub IsNotWaiting : Declaration → List LoadEntry → ℕ → Outcome → Type 0
 IsNotWaiting d load limit o = o.stop ≡ Waiting → ⊥
+
+-- without limits on unanswered commands none does, whatever the network
+abbrev pub WithoutLimitsNoneWaits : Type 0
+WithoutLimitsNoneWaits = (d : Declaration) (load : List LoadEntry) (limit : ℕ) (o : Outcome) → HasNoLimits (network_of d) → IsOutcome d load limit o → IsNotWaiting d load limit o
 
 -- the flow is one of those of replies
 pub record IsOfReplies (net : Network) (flow : ℕ) : Type 0 where

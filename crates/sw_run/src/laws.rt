@@ -1,5 +1,5 @@
 //! What holds of outcomes where a certificate is accepted for the network. These functions do nothing: each is the proof of what its clause says.
-ghost use Rattle.sw_run.specs.Laws.{HasOneCount, IsDeliveredWhereDrained, IsNotFull, IsNotStuck, IsNotWaiting, OfAcceptedOutcomes};
+ghost use Rattle.sw_run.specs.Laws.{HasOneCount, IsDeliveredWhereDrained, IsNotFull, IsNotStuck, IsNotWaiting, OfAcceptedOutcomes, WithoutLimitsNoneWaits};
 
 use sw_load::history_laws::accepted_histories_end;
 use sw_machine::laws::accepted_is_never_locked_up;
@@ -13,6 +13,11 @@ pub fn accepted_is_not_stuck()
     accepted_is_never_locked_up();
     declared_networks_are_networks();
 }
+
+/// Without limits on unanswered commands no run waits for ever, whatever the network.
+pub fn without_limits_none_waits()
+    ensures { WithoutLimitsNoneWaits }
+{}
 
 /// A run that ends drained brought each packet of the load, once, to the node where its flow ends,
 /// and one reply for each that is answered.
