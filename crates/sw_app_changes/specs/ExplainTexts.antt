@@ -211,18 +211,18 @@ tangles_text d all ts = flat_map (tangle_text d all) ts ++ total_line ts
 
 -- ---- all together
 
--- what is taken for granted
-abbrev pub granted : List ℕ
-granted =
-    codes "taken for granted: nodes take what comes, sources end their packets, links lose and change nothing, only declared packets are sent, "
-    ++ codes "limits on unanswered commands are kept"
+-- what it hangs on where commands are limited, and what it never does
+abbrev pub conditions : List ℕ
+conditions =
+    codes "buffers and arbiters do not change this; where the file limits unanswered commands, these limits have to be kept, "
+    ++ codes "and others, or other slots, may change it"
 
--- that nothing can lock up, what that does not hang on, and what is taken for granted
+-- that nothing can lock up, what that hangs on, and what is taken for granted
 abbrev pub free_text : List ℕ
 free_text = line (codes "free" ∷ [])
     ++ (line (codes "no channels can wait for one another in a circle; swcheck decide writes the certificate" ∷ [])
-    ++ (line (codes "buffers and arbiters do not change this; where the file limits unanswered commands, other limits and slots may" ∷ [])
-    ++ line (granted ∷ [])))
+    ++ (line (conditions ∷ [])
+    ++ line (codes "taken for granted: nodes take what comes, sources end their packets, links lose and change nothing, only declared packets are sent" ∷ [])))
 
 -- what is told of a network
 abbrev pub explain_text : Declaration → Bool → Explanation → List ℕ

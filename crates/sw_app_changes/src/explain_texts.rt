@@ -12,7 +12,7 @@ use sw_text::statuses::{BAD, GOOD};
 
 /// What is told of a network that never locks up.
 const FREE: &str =
-    "free\nno channels can wait for one another in a circle; swcheck decide writes the certificate\nbuffers and arbiters do not change this; where the file limits unanswered commands, other limits and slots may\ntaken for granted: nodes take what comes, sources end their packets, links lose and change nothing, only declared packets are sent, limits on unanswered commands are kept\n";
+    "free\nno channels can wait for one another in a circle; swcheck decide writes the certificate\nbuffers and arbiters do not change this; where the file limits unanswered commands, these limits have to be kept, and others, or other slots, may change it\ntaken for granted: nodes take what comes, sources end their packets, links lose and change nothing, only declared packets are sent\n";
 
 /// The text of what is told of a network; with all flows of a step, or six and how many more there are.
 pub(crate) fn explain_text(
