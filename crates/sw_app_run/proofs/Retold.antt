@@ -1,15 +1,19 @@
 -- A replay of the steps of a run's history ends in the state after it.
-use Rattle.std.proofs.Common.{◌≡◌, ℕ, ◌<◌, Bool, true, false, IsTrue, ◌↔◌, List, [], length, refl, sym, ap, subst, ◌∙◌, arith}
+use Rattle.std.proofs.Common.{◌≡◌, ℕ, ◌<◌, Bool, true, false, IsTrue, ◌↔◌, List, [], ◌∷◌, ◌++◌, length, refl, sym, ap, subst, ◌∙◌, arith, append_assoc}
 use Rattle.std.proofs.lemmas.Option.{get_or_from_slice_get}
 use Rattle.sw_config.specs.Entries.{Declaration}
+use Rattle.sw_load.proofs.Grown.{keeps_last}
+use Rattle.sw_machine.specs.Limits.{KeepsLimits}
 use Rattle.sw_machine.specs.Network.{Network}
 use Rattle.sw_machine.specs.Packets.{Packet}
-use Rattle.sw_machine.specs.Runs.{CameOut, IsLockedUp, undelivered}
+use Rattle.sw_machine.specs.Runs.{CameOut, IsLockedUp, Run, undelivered}
 use Rattle.sw_machine.specs.State.{State, empty}
+use Rattle.sw_machine.specs.Steps.{Begin, Step}
 use Rattle.sw_machine.specs.Model.{network_of}
 use Rattle.sw_machine.proofs.Flows.{some_at}
+use Rattle.sw_machine.proofs.RunLists.{run_append}
 use Rattle.sw_schedule.specs.declared.replayed.ReplayEnd.TheVariants.{Made}
-use Rattle.sw_schedule.specs.Replays.{Ends, IsReplayed}
+use Rattle.sw_schedule.specs.Replays.{Ends, IsReplayed, RunWithin}
 use Rattle.sw_schedule.specs.Reports.{AreOutputs, Report}
 use Rattle.sw_schedule.proofs.OneReport.{replays_are_determined}
 use Rattle.sw_schedule.proofs.Stops.{one_end}
@@ -36,12 +40,27 @@ not_so : (b : Bool) (P : Type 0) → (IsTrue b ↔ P) → (P → ⊥) → b ≡ 
 not_so true P so never = absurd (never (so.0 refl))
 not_so false P so never = refl
 
+-- ---- a history is a run in which each step keeps the limits
+
+keeps_front : (net : Network) (steps more : List Step) → KeepsLimits net (steps ++ more) → KeepsLimits net steps
+keeps_front net steps more keeps = λ before after flow cargo end s parts run.
+    keeps before (after ++ more) flow cargo end s (sym (append_assoc before (Begin flow cargo end ∷ after) more) ∙ ap (λ l. l ++ more) parts) run
+
+within : (net : Network) (before steps : List Step) (s t : State) → Run net (empty net) before s → Run net s steps t → KeepsLimits net (before ++ steps) → RunWithin net before s steps t
+within net before [] s t so_far run keeps = run
+within net before (x ∷ steps) s t so_far run keeps =
+    let next : Run net (empty net) (before ++ x ∷ []) run.0 = run_append net before (x ∷ []) (empty net) s run.0 so_far (run.0, run.1, refl) in
+    let all : KeepsLimits net ((before ++ x ∷ []) ++ steps) = subst (KeepsLimits net) (sym (append_assoc before (x ∷ []) steps)) keeps in
+    let here : KeepsLimits net (before ++ x ∷ []) = keeps_front net (before ++ x ∷ []) steps all in
+    (run.0, (run.1, keeps_last net before s x run.0 next run.1 here), within net (before ++ x ∷ []) steps run.0 t next run.2 all)
+
 pub replays_are_as_told : ReplaysAreAsTold
 replays_are_as_told d load limit o r is replayed =
     let net = network_of d in
     let steps = steps_of o in
-    let made : Ends net (empty net) steps (Made (length steps)) is.state = (refl, is.history.run) in
-    let one = one_end net (empty net) replayed.state is.state steps r.outcome (Made (length steps)) replayed.ends made in
+    let run : RunWithin net [] (empty net) steps is.state = within net [] steps (empty net) is.state refl is.history.run is.history.keeps in
+    let made : Ends net [] (empty net) steps (Made (length steps)) is.state = (refl, run) in
+    let one = one_end net [] (empty net) replayed.state is.state steps r.outcome (Made (length steps)) replayed.ends made in
     let locked : IsTrue r.stuck ↔ IsLockedUp net is.state = subst (λ (s : State). IsTrue r.stuck ↔ IsLockedUp net s) one.1 replayed.report.locked_up in
     let q : Report = record { outcome = Made (length steps); remaining = o.undelivered; stuck = r.stuck; came_out = came_out_of o } in
     let told : IsReplayed d steps q = record {
