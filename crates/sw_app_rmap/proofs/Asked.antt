@@ -6,9 +6,10 @@ use Rattle.std.proofs.lemmas.Bool.{and_parts, ltb-true, ltb-false}
 use Rattle.std.proofs.lemmas.List.Quantifiers.{position-Some}
 use Rattle.std.proofs.lemmas.Slice.Eq.{bytes_eq-Decides}
 use Rattle.sw_config.specs.Entries.{Declaration, FlowEntry, NodeEntry, ReplyEntry, flow_names, target_of}
+use Rattle.sw_config.specs.Limits.{is_limited}
 use Rattle.sw_config.specs.Valid.{IsFlow, IsValid}
 use Rattle.sw_config.proofs.Flows.{All-at}
-use Rattle.sw_machine.specs.DeclaredPackets.{IsAnsweredRightly, IsDeclaredPacket, IsRightWay, left_bytes, reply_from}
+use Rattle.sw_machine.specs.DeclaredPackets.{IsAnsweredRightly, IsCommandIfLimited, IsDeclaredPacket, IsRightWay, left_bytes, reply_from}
 use Rattle.sw_rmap.specs.declared.config.TargetConfig.{TargetConfig}
 use Rattle.sw_rmap.specs.CommandView.{CommandView}
 use Rattle.sw_rmap.specs.Commands.{read}
@@ -62,6 +63,28 @@ answered_rightly t nodes f o cargo at path small is =
     let right : IsRightWay (way_back c) f.reply = rw (answered_where_wanted t f.reply o path, path_of_command t f.reply o path) (right_way (wants_reply o.action) (path_back f.reply) (initiator_of f.reply) f.reply is.answerable refl refl) in
     subst (λ (w : Option (List ℕ)). IsRightWay w f.reply) (sym from) right
 
+some_way : (answered : Bool) (path : List ℕ) (initiator : ℕ) → answered ≡ true → is_some (if answered then Some (path ++ initiator ∷ []) else None) ≡ true
+some_way false path initiator e = absurd cc
+some_way true path initiator e = refl
+
+asks : (limited wants : Bool) → (limited && not wants) ≡ false → limited ≡ true → wants ≡ true
+asks limited true h e = refl
+asks true false h e = absurd cc
+asks false false h e = absurd cc
+
+-- where the flow is limited, there is one
+command_where_limited : (t : TargetConfig) (nodes : List NodeEntry) (f : FlowEntry) (o : RmapOrder) (cargo : List ℕ) → target_of nodes f.to ≡ Some t → IsPath (path_back f.reply) → IsSmall o → IsCarried t f o cargo
+    → (is_limited nodes f && not (wants_reply o.action)) ≡ false → IsCommandIfLimited nodes f cargo
+unfolding reply_to
+command_where_limited t nodes f o cargo at path small is free limited =
+    let c : CommandView = command_to t f.reply o in
+    let again : read (bytes_to t f.reply o) ≡ Some c = (written_is_read c (data_of o.action) (is_command t f.reply o path small)).0 in
+    let way : reply_to (bytes_to t f.reply o) ≡ way_back c = ap (option_and_then way_back) again in
+    let from : reply_from nodes f.to (left_bytes f ++ cargo) ≡ way_back c = rw (at, whole_command t f o cargo is) way in
+    let some : is_some (way_back c) ≡ true = rw (answered_where_wanted t f.reply o path, path_of_command t f.reply o path)
+        (some_way (wants_reply o.action) (path_back f.reply) (initiator_of f.reply) (asks (is_limited nodes f) (wants_reply o.action) free limited)) in
+    subst (λ (w : Option (List ℕ)). is_some w ≡ true) (sym from) some
+
 is_valid_flow : (d : Declaration) (i : ℕ) (f : FlowEntry) → IsValid d → slice_get d.flows i ≡ Some f → IsFlow d.nodes f
 is_valid_flow d i f valid at = All-at (IsFlow d.nodes) d.flows i f at valid.flows
 
@@ -99,6 +122,7 @@ packets_are_asked d r p valid h =
         some = size.0;
         few = omega (arith, size.1);
         answered = answered_rightly t d.nodes f o p.cargo target.1 path small is;
+        command = command_where_limited t d.nodes f o p.cargo target.1 path small is target.3;
       };
       order = o;
       asked = made.asked;

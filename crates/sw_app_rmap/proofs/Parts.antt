@@ -3,16 +3,17 @@ use Rattle.std.proofs.Common.{◌≡◌, ◌<◌, ℕ, Bool, true, false, not, �
 use Rattle.std.specs.Prelude.{IsErr, IsErrAnd, is_some, nat_lt, position, slice_get, option_map, if◌then◌else◌}
 use Rattle.std.specs.Str.{bytes_eq}
 use Rattle.sw_config.specs.Entries.{Declaration, FlowEntry, NodeEntry, all_flows, flow_names, reply_flows, target_of}
+use Rattle.sw_config.specs.Limits.{is_limited}
 use Rattle.sw_machine.specs.DeclaredPackets.{left_bytes}
 use Rattle.sw_rmap.specs.declared.config.TargetConfig.{TargetConfig}
 use Rattle.sw_app_rmap.specs.declared.fault.RmapError.{RmapError}
 use Rattle.sw_app_rmap.specs.declared.fault.RmapError.TheVariants.{Fault, Memory}
 use Rattle.sw_app_rmap.specs.declared.fault.RmapFault.{RmapFault}
-use Rattle.sw_app_rmap.specs.declared.fault.RmapFault.TheVariants.{UnknownFlow, BadAddress, BadTransaction, NoTarget, NoReply, OutsideWindow, WrongLeft, TooLong}
+use Rattle.sw_app_rmap.specs.declared.fault.RmapFault.TheVariants.{UnknownFlow, BadAddress, BadTransaction, NoTarget, NotAnswered, NoReply, OutsideWindow, WrongLeft, TooLong}
 use Rattle.sw_app_rmap.specs.declared.request.Request.{Request}
 use Rattle.sw_app_rmap.specs.FlowCommands.{bytes_to}
 use Rattle.sw_app_rmap.specs.Orders.{Action, RmapOrder, action_of, order_of, transaction_of, wants_reply}
-use Rattle.sw_app_rmap.specs.Packets.{FlowPacket, begins_with, behind_left, cargo_of, cargo_to, is_in_window, packet_of}
+use Rattle.sw_app_rmap.specs.Packets.{FlowPacket, begins_with, behind_left, cargo_of, cargo_to, cargo_where, is_in_window, packet_of}
 use Rattle.sw_app_rmap.specs.Told.{◌>>=◌, Fails, Gives, ok_or}
 use Rattle.sw_app_rmap.specs.Words.{number_of}
 use Rattle.sw_config.proofs.Lists.{in_front}
@@ -88,11 +89,13 @@ is_carried t f o cargo h =
       is = sym same;
     }
 
-pub has_target : (nodes : List NodeEntry) (f : FlowEntry) (o : RmapOrder) (cargo : List ℕ) → cargo_of nodes f o ≡ Ok cargo → (t : TargetConfig) × (target_of nodes f.to ≡ Some t) × IsCarried t f o cargo
+pub has_target : (nodes : List NodeEntry) (f : FlowEntry) (o : RmapOrder) (cargo : List ℕ) → cargo_of nodes f o ≡ Ok cargo
+    → (t : TargetConfig) × (target_of nodes f.to ≡ Some t) × IsCarried t f o cargo × ((is_limited nodes f && not (wants_reply o.action)) ≡ false)
 unfolding cargo_of
 has_target nodes f o cargo h =
-    let target = goes_on (ok_or (target_of nodes f.to) NoTarget) (λ t. cargo_to t f o) cargo h in
-    (target.0, is_there (target_of nodes f.to) NoTarget target.0 target.1, is_carried target.0 f o cargo target.2)
+    let target = goes_on (ok_or (target_of nodes f.to) NoTarget) (λ t. cargo_where (is_limited nodes f) t f o) cargo h in
+    let asks = not_refused (is_limited nodes f && not (wants_reply o.action)) NotAnswered (cargo_to target.0 f o) cargo target.2 in
+    (target.0, is_there (target_of nodes f.to) NoTarget target.0 target.1, is_carried target.0 f o cargo asks.1, asks.0)
 
 -- what is known of a packet
 pub record IsMade (d : Declaration) (r : Request) (p : FlowPacket) : Type 0 where

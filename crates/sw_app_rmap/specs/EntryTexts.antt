@@ -4,7 +4,7 @@ use Rattle.hex.specs.Hex.{encode_upper}
 use Rattle.toml.specs.Data.{Members, array, item, member, no_items, no_members, string, table}
 use Rattle.sw_output.specs.Lines.{line}
 use Rattle.sw_app_rmap.specs.declared.fault.RmapFault.{RmapFault}
-use Rattle.sw_app_rmap.specs.declared.fault.RmapFault.TheVariants.{UnknownFlow, BadAddress, BadLength, BadData, BadTransaction, NoTarget, NoReply, OutsideWindow, WrongLeft, TooLong}
+use Rattle.sw_app_rmap.specs.declared.fault.RmapFault.TheVariants.{UnknownFlow, BadAddress, BadLength, BadData, BadTransaction, NoTarget, NotAnswered, NoReply, OutsideWindow, WrongLeft, TooLong}
 
 -- the entry of a load: the flow's name, and the cargo as pairs of hexadecimal digits
 abbrev pub entry_table : List ℕ → List ℕ → Members
@@ -22,6 +22,7 @@ fault_words BadLength = codes "R2 BadLength"
 fault_words BadData = codes "R3 BadData"
 fault_words BadTransaction = codes "R4 BadTransaction"
 fault_words NoTarget = codes "R5 NoTarget"
+fault_words NotAnswered = codes "R10 NotAnswered"
 fault_words NoReply = codes "R6 NoReply"
 fault_words OutsideWindow = codes "R7 OutsideWindow"
 fault_words WrongLeft = codes "R8 WrongLeft"

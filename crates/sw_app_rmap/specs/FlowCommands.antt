@@ -1,5 +1,5 @@
 -- The RMAP command of a flow to its target (ECSS-E-ST-50-52C, the fields of write and read commands).
-use Rattle.std.specs.Prelude.{ℕ, ◌+◌, ◌-◌, ◌*◌, ◌/◌, Bool, List, [], ◌++◌, length, replicate, Option, Some, None}
+use Rattle.std.specs.Prelude.{ℕ, ◌+◌, ◌-◌, ◌*◌, ◌/◌, List, [], ◌++◌, length, replicate, Option, Some, None}
 use Rattle.sw_config.specs.Entries.{ReplyEntry}
 use Rattle.sw_rmap.specs.declared.config.TargetConfig.{TargetConfig}
 use Rattle.sw_rmap.specs.CommandView.{CommandView, command}

@@ -2,10 +2,11 @@
 use Rattle.std.specs.Prelude.{ℕ, ◌+◌, Bool, not, ◌&&◌, nat_le, nat_lt, is_some, List, drop, take, length, position, slice_get, Result, Ok, Err, if◌then◌else◌}
 use Rattle.std.specs.Str.{bytes_eq}
 use Rattle.sw_config.specs.Entries.{Declaration, FlowEntry, NodeEntry, flow_names, target_of}
+use Rattle.sw_config.specs.Limits.{is_limited}
 use Rattle.sw_machine.specs.DeclaredPackets.{left_bytes}
 use Rattle.sw_rmap.specs.declared.config.TargetConfig.{TargetConfig}
 use Rattle.sw_app_rmap.specs.declared.fault.RmapFault.{RmapFault}
-use Rattle.sw_app_rmap.specs.declared.fault.RmapFault.TheVariants.{UnknownFlow, NoTarget, NoReply, OutsideWindow, WrongLeft, TooLong}
+use Rattle.sw_app_rmap.specs.declared.fault.RmapFault.TheVariants.{UnknownFlow, NoTarget, NotAnswered, NoReply, OutsideWindow, WrongLeft, TooLong}
 use Rattle.sw_app_rmap.specs.declared.request.Request.{Request}
 use Rattle.sw_app_rmap.specs.FlowCommands.{bytes_to}
 use Rattle.sw_app_rmap.specs.Orders.{RmapOrder, length_of, order_of, wants_reply}
@@ -38,11 +39,15 @@ cargo_to t f o =
     else if not (is_in_window t o) then Err OutsideWindow
     else behind_left (left_bytes f) (bytes_to t f.reply o)
 
+-- the same where the flow is limited, or is not: a flow that is limited carries only commands that ask for a reply
+abbrev pub cargo_where : Bool → TargetConfig → FlowEntry → RmapOrder → Result (List ℕ) RmapFault
+cargo_where limited t f o = if limited && not (wants_reply o.action) then Err NotAnswered else cargo_to t f o
+
 -- the same to the node where the flow ends, which has to be a target
 unfoldable pub cargo_of : List NodeEntry → FlowEntry → RmapOrder → Result (List ℕ) RmapFault
 cargo_of nodes f o = do
   target ← ok_or (target_of nodes f.to) NoTarget
-  cargo_to target f o
+  cargo_where (is_limited nodes f) target f o
 
 -- the packet that is asked for: first the flow is looked up, then the words are read
 unfoldable pub packet_of : Declaration → Request → Result FlowPacket RmapFault

@@ -20,6 +20,8 @@ pub(crate) enum RmapFault {
     BadTransaction,
     /// The flow ends at a node that is no RMAP target.
     NoTarget,
+    /// The flow is limited in its unanswered commands, and the command asks for no reply.
+    NotAnswered,
     /// The flow has no replies, and the command asks for one.
     NoReply,
     /// The target's window has not all that is read or written.
@@ -56,6 +58,7 @@ pub(crate) fn fault_words(fault: RmapFault) -> &'static str
         RmapFault::BadData => "R3 BadData",
         RmapFault::BadTransaction => "R4 BadTransaction",
         RmapFault::NoTarget => "R5 NoTarget",
+        RmapFault::NotAnswered => "R10 NotAnswered",
         RmapFault::NoReply => "R6 NoReply",
         RmapFault::OutsideWindow => "R7 OutsideWindow",
         RmapFault::WrongLeft => "R8 WrongLeft",

@@ -1,11 +1,12 @@
 //! The packet of a flow that brings its target a command.
 ghost use Rattle.std.specs.Prelude.{◌≡◌, ◌≤◌, length};
+ghost use Rattle.sw_config.specs.Limits.{is_limited};
 ghost use Rattle.sw_config.specs.Valid.{IsFlow};
 ghost use Rattle.sw_rmap.specs.Config.{IsTargetConfig};
 ghost use Rattle.sw_app_rmap.specs.Told.{Gives};
 ghost use Rattle.sw_app_rmap.specs.FlowCommands.{path_back};
 ghost use Rattle.sw_app_rmap.specs.Orders.{IsSmall, order_view};
-ghost use Rattle.sw_app_rmap.specs.Packets.{begins_with, behind_left, cargo_of, cargo_to, is_in_window, packet_of};
+ghost use Rattle.sw_app_rmap.specs.Packets.{begins_with, behind_left, cargo_of, cargo_to, cargo_where, is_in_window, packet_of};
 
 use crate::fault::{RmapError, RmapFault};
 use crate::flow_command::bytes_to;
@@ -83,19 +84,40 @@ fn cargo_to(
     behind_left(alloc, left_bytes(flow), &bytes)
 }
 
+// The same where the flow is limited, or is not.
+fn cargo_where(
+    alloc: Global,
+    limited: bool,
+    target: TargetConfig,
+    flow: &Flow,
+    order: &RmapOrder,
+) -> Result<Vec<u8>, RmapError>
+    requires target { IsTargetConfig target }
+    requires path { length (path_back flow.now.reply) ≤ 12 }
+    requires small { IsSmall (order_view order.now) }
+    ensures { Gives (λ v. v.items) result (cargo_where limited target flow.now (order_view order.now)) }
+{
+    if limited && !order.action.wants_reply() {
+        return Err(RmapError::Fault(RmapFault::NotAnswered));
+    }
+    cargo_to(alloc, target, flow, order)
+}
+
 #[tactic(auto, unfolding(crate::specs::Packets::cargo_of))]
 fn cargo_of(
     alloc: Global,
     network: &Network,
+    limited: bool,
     flow: &Flow,
     order: &RmapOrder,
 ) -> Result<Vec<u8>, RmapError>
+    requires limited { limited ≡ is_limited network.now.nodes flow.now }
     requires flow { IsFlow network.now.nodes flow.now }
     requires small { IsSmall (order_view order.now) }
     ensures { Gives (λ v. v.items) result (cargo_of network.now.nodes flow.now (order_view order.now)) }
 {
     match network.target(flow.to()) {
-        Some(target) => cargo_to(alloc, target, flow, order),
+        Some(target) => cargo_where(alloc, limited, target, flow, order),
         None => Err(RmapError::Fault(RmapFault::NoTarget)),
     }
 }
@@ -118,7 +140,7 @@ pub(crate) fn packet_of(
     };
     let flow = network.flow(number);
     let order = order_of(alloc, request)?;
-    let cargo = cargo_of(alloc, network, flow, &order)?;
+    let cargo = cargo_of(alloc, network, network.is_limited(number), flow, &order)?;
     Ok(FlowPacket {
         flow: number,
         cargo,

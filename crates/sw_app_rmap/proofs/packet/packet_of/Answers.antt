@@ -1,7 +1,14 @@
+use Rattle.std.proofs.Common.{◌∙◌, ap, false}
+use Rattle.std.specs.Option.{option_map_or}
+use Rattle.sw_config.specs.Limits.{is_limited}
 use Rattle.sw_app_rmap.specs.Orders.{order_view}
 use Rattle.sw_app_rmap.proofs.Bounds.{is_small}
 use Rattle.sw_app_rmap.proofs.Parts.{cargo_refused, handed_on, is_packet, order_refused}
 use Rattle.sw_app_rmap.proofs.packet.packet_of.Goals as goal
+
+pub cargo_of-requires-clause-limited : goal.cargo_of-requires-clause-limited
+cargo_of-requires-clause-limited c =
+    c.is_limited.ensures ∙ ap (λ o. option_map_or (is_limited c.args.network.now.nodes) o false) c.flow-flow.ensures.flow
 
 pub cargo_of-requires-clause-small : goal.cargo_of-requires-clause-small
 cargo_of-requires-clause-small c = is_small c.args.request.now (order_view c.in_ok-order.order) c.in_ok-order.ensures
