@@ -82,7 +82,7 @@ command_where_limited t nodes f o cargo at path small is free limited =
     let way : reply_to (bytes_to t f.reply o) ≡ way_back c = ap (option_and_then way_back) again in
     let from : reply_from nodes f.to (left_bytes f ++ cargo) ≡ way_back c = rw (at, whole_command t f o cargo is) way in
     let some : is_some (way_back c) ≡ true = rw (answered_where_wanted t f.reply o path, path_of_command t f.reply o path)
-        (some_way (wants_reply o.action) (path_back f.reply) (initiator_of f.reply) (asks (is_limited nodes f) (wants_reply o.action) free limited)) in
+    (some_way (wants_reply o.action) (path_back f.reply) (initiator_of f.reply) (asks (is_limited nodes f) (wants_reply o.action) free limited)) in
     subst (λ (w : Option (List ℕ)). is_some w ≡ true) (sym from) some
 
 is_valid_flow : (d : Declaration) (i : ℕ) (f : FlowEntry) → IsValid d → slice_get d.flows i ≡ Some f → IsFlow d.nodes f
