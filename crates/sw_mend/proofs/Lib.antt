@@ -14,3 +14,6 @@ mod MovedFlows
 mod OwnLinks
 mod Rewired
 mod OfKinds
+pub mod Tested
+pub mod MoreSlots
+pub mod LimitedFlows

@@ -2,4 +2,5 @@ pub mod Changes
 pub mod Kinds
 pub mod Splits
 pub mod Mends
+pub mod Limitings
 pub mod Laws

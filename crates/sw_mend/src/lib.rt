@@ -4,6 +4,7 @@
 mod change;
 mod flows;
 pub mod laws;
+mod limiting;
 mod links;
 mod listing;
 mod mending;
@@ -15,6 +16,7 @@ mod splitting;
 mod tables;
 
 pub use change::{Change, Pair, TargetLink, Trial};
+pub use limiting::{Limiting, TargetSlots, find_limiting};
 pub use mending::mends;
 pub use pairs::pair_mends;
 pub use rebuilt::{network_with, network_with_all};
