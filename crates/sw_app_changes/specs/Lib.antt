@@ -1,5 +1,6 @@
 pub mod ExplainTexts
 pub mod ExplainAnswers
+pub mod LimitingTexts
 pub mod Mendings
 pub mod MendTexts
 pub mod MendAnswers

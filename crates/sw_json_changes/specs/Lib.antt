@@ -1,6 +1,7 @@
 pub mod ExplainValues
 pub mod ExplainJson
 pub mod ExplainLaws
+pub mod LimitingValues
 pub mod MendValues
 pub mod MendJson
 pub mod MendLaws

@@ -5,6 +5,7 @@ mod explain_engine;
 pub mod explain_laws;
 mod explain_outcome;
 mod explain_values;
+mod limiting_values;
 mod margin_engine;
 pub mod margin_laws;
 mod margin_outcome;
