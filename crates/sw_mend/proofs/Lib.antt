@@ -17,3 +17,6 @@ mod OfKinds
 pub mod Tested
 pub mod MoreSlots
 pub mod LimitedFlows
+pub mod Firsts
+pub mod FirstLimits
+pub mod WantedSlots

@@ -3,4 +3,5 @@ pub mod Kinds
 pub mod Splits
 pub mod Mends
 pub mod Limitings
+pub mod LimitingLaws
 pub mod Laws

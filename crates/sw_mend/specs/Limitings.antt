@@ -1,5 +1,5 @@
 -- How few commands may be unanswered for a network to be free, and how many replies its targets have to be able to owe.
-use Rattle.std.specs.Prelude.{◌≡◌, ◌⊎◌, ℕ, ◌+◌, ◌≤◌, ◌==◌, ◌&&◌, Bool, not, is_some, List, [], ◌∷◌, ◌++◌, All, map, Option, Some, None, option_map, if◌then◌else◌}
+use Rattle.std.specs.Prelude.{◌≡◌, ◌⊎◌, ℕ, zero, suc, ◌+◌, ◌≤◌, ◌==◌, ◌&&◌, Bool, not, is_some, List, [], ◌∷◌, ◌++◌, All, map, Option, Some, None, option_map, if◌then◌else◌}
 use Rattle.std.specs.List.{list_any}
 use Rattle.std.specs.Option.{option_map_or}
 use Rattle.sw_rmap.specs.declared.config.TargetConfig.{TargetConfig}
@@ -84,12 +84,22 @@ limit_alone most = record { most = Some most; slots = [] }
 abbrev pub limit_and_slots : Declaration → Option ℕ → Limiting
 limit_and_slots d most = record { most = most; slots = more_slots (limited_to d most) }
 
--- the greatest limit first: where flows are unlimited 8 to 1, and then 1 with slots; else slots alone
+-- from that number down to 1
+abbrev pub down_from : ℕ → List ℕ
+down_from zero = []
+down_from (suc n) = suc n ∷ down_from n
+
+-- limits from that number down to 1, and then 1 with slots
+abbrev pub limits_from : Declaration → ℕ → List Limiting
+limits_from d n = map limit_alone (down_from n) ++ limit_and_slots d (Some 1) ∷ []
+
+-- a flow is unlimited
+abbrev pub has_unlimited : Declaration → Bool
+has_unlimited d = list_any (is_unlimited d.nodes) d.flows
+
+-- where flows are unlimited the greatest limit first, which is 8; else slots alone
 abbrev pub limitings : Declaration → List Limiting
-limitings d =
-    if list_any (is_unlimited d.nodes) d.flows
-    then map limit_alone (8 ∷ 7 ∷ 6 ∷ 5 ∷ 4 ∷ 3 ∷ 2 ∷ 1 ∷ []) ++ limit_and_slots d (Some 1) ∷ []
-    else limit_and_slots d None ∷ []
+limitings d = if has_unlimited d then limits_from d 8 else limit_and_slots d None ∷ []
 
 -- each flow of the network that it leaves is well routed, no channels can wait for one another in a circle, and no target needs more than
 -- 64 slots

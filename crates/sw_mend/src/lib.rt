@@ -5,6 +5,7 @@ mod change;
 mod flows;
 pub mod laws;
 mod limiting;
+pub mod limiting_laws;
 mod links;
 mod listing;
 mod mending;

@@ -1,12 +1,11 @@
 //! How few commands may be unanswered for a network to be free.
 ghost use Rattle.std.specs.Prelude.{◌≡◌, ℕ, ◌↔◌, ◌<◌, ◌∷◌, ◌==◌, ◌||◌, [], All, IfOk, IfSome, IsTrue, OnOk, Some, None, false, if◌then◌else◌, length, not, map, option_and_then, option_map, slice_get};
-ghost use Rattle.std.specs.List.{list_any};
 ghost use Rattle.std.specs.Option.{option_map_or};
 ghost use Rattle.sw_config.specs.Entries.{all_flows, empty};
 ghost use Rattle.sw_config.specs.Limits.{all_limited_at, is_limited, limit_at, may_make_wait};
 ghost use Rattle.sw_config.specs.Valid.{IsOutstanding, IsTarget};
 ghost use Rattle.sw_search.specs.Laws.{RoutedAndFree};
-ghost use Rattle.sw_mend.specs.Limitings.{AreSlots, FreesLimited, IsFirst, IsLimiting, IsSlots, flow_limited, is_unlimited, limit_and_slots, limited_by, limited_to, slots_wanted, target_with, with_slots};
+ghost use Rattle.sw_mend.specs.Limitings.{AreSlots, FreesLimited, IsFirst, IsLimiting, IsSlots, flow_limited, has_unlimited, is_unlimited, limit_and_slots, limited_by, limited_to, slots_wanted, target_with, with_slots};
 
 use crate::parts::{add_links, add_switches};
 use std::alloc::{AllocError, Global};
@@ -56,7 +55,7 @@ fn is_unlimited(network: &Network, flow: u16) -> bool
 
 // Is a flow such?
 fn has_unlimited(network: &Network) -> bool
-    ensures { result ≡ list_any (is_unlimited network.now.nodes) network.now.flows }
+    ensures { result ≡ has_unlimited network.now }
 {
     for flow in 0..network.declared_flows() {
         if is_unlimited(network, flow) {
