@@ -15,6 +15,6 @@ mod splitting;
 mod tables;
 
 pub use change::{Change, Pair, TargetLink, Trial};
-pub use mending::mends;
+pub use mending::{mends, unit_mends};
 pub use pairs::pair_mends;
 pub use rebuilt::{network_with, network_with_all};
