@@ -194,12 +194,6 @@ pub fn mending_status(mending: &Mending) -> u8
     match mending {
         Mending::Misrouted(_, _, _) => BAD,
         Mending::Free => GOOD,
-        Mending::Cyclic(cures) => {
-            if is_cured(cures) {
-                GOOD
-            } else {
-                BAD
-            }
-        }
+        Mending::Cyclic(cures) => { if is_cured(cures) { GOOD } else { BAD } }
     }
 }

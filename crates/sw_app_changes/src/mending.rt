@@ -1,5 +1,6 @@
 //! What `mend` finds of a network.
-ghost use Rattle.std.specs.Prelude.{IfOk};
+ghost use Rattle.std.specs.Prelude.{◌≡◌, IfOk, IfSome, is_some};
+ghost use Rattle.sw_mend.specs.Mends.{ArePairMends};
 ghost use Rattle.sw_search.specs.Verdicts.{IsVerdict};
 ghost use Rattle.sw_app_changes.specs.Mendings.{AreCures, IsMending};
 
@@ -31,6 +32,21 @@ pub struct Cures {
     pub units: Vec<Trial>,
 }
 
+// The pairs that free the network, if they are to be looked for.
+fn pairs_if<W: VerdictWorkers>(
+    workers: &W,
+    alloc: Global,
+    is_wanted: bool,
+    network: &Network,
+) -> Result<Option<Vec<Pair>>, AllocError>
+    ensures { IfOk result (λ found. (is_some found ≡ is_wanted) × IfSome found (λ told. ArePairMends network.now told.items)) }
+{
+    if !is_wanted {
+        return Ok(None);
+    }
+    Ok(Some(pair_mends(workers, alloc, network)?))
+}
+
 // What frees the network, with pairs asked for or not.
 fn find_cures<W: VerdictWorkers>(
     workers: &W,
@@ -42,11 +58,8 @@ fn find_cures<W: VerdictWorkers>(
 {
     let changes = mends(workers, alloc, network)?;
     let units = unit_mends(workers, alloc, network)?;
-    let pairs = if pairs && changes.is_empty() {
-        Some(pair_mends(workers, alloc, network)?)
-    } else {
-        None
-    };
+    let is_wanted = pairs && changes.is_empty();
+    let pairs = pairs_if(workers, alloc, is_wanted, network)?;
     Ok(Cures {
         changes,
         pairs,

@@ -72,11 +72,14 @@ module _ (d : Declaration) where
   with_failing first fails [] rest told none are = rw none at are
   with_failing first fails (c ∷ changes) rest told (more, those, inl also) are =
       let here : AreThosePairs d (pair_with first c ∷ map (pair_with first) more) told = rw also.1 at are in
-      let others : List Pair = here.0 in
-      (others, with_failing first fails changes more others those here.1, elim here.2 [
-        | inl frees ↦ inl ((fails, also.0, frees.0), frees.1)
-        | inr never ↦ inr (λ both. never.0 both.2, never.1)
-      ])
+      let others : List Pair = here.0 in (
+        others,
+        with_failing first fails changes more others those here.1,
+        elim here.2 [
+          | inl frees ↦ inl ((fails, also.0, frees.0), frees.1)
+          | inr never ↦ inr (λ both. never.0 both.2, never.1)
+        ],
+      )
   with_failing first fails (c ∷ changes) rest told (more, those, inr never) are =
       (told, with_failing first fails changes more told those (rw never.1 at are), inr (λ both. never.0 both.1, refl))
 
