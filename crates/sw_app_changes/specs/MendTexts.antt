@@ -85,6 +85,10 @@ is_cured cures = has_some cures.changes.items || has_some (told_pairs cures) || 
 abbrev pub cures_text : Declaration → Cures → List ℕ
 cures_text d cures = if is_cured cures then cure_lines d cures else if is_some cures.pairs then no_pair_line else none_line
 
+-- 0 where something frees it
+abbrev pub cures_status : Cures → ℕ
+cures_status cures = if is_cured cures then 0 else 1
+
 -- that there is nothing to mend
 abbrev pub free_line : List ℕ
 free_line = line (codes "free already" ∷ [])
@@ -99,4 +103,4 @@ mending_text d (Cyclic cures) = cures_text d cures
 abbrev pub mending_status : Mending → ℕ
 mending_status (Misrouted flow place fault) = 1
 mending_status Free = 0
-mending_status (Cyclic cures) = if is_cured cures then 0 else 1
+mending_status (Cyclic cures) = cures_status cures

@@ -1,7 +1,7 @@
 //! The lines of `mend`.
 ghost use Rattle.std.specs.Prelude.{◌≡◌, ◌++◌, ◌∷◌, [], IfOk, OnOk, flat_map, string_bytes};
 ghost use Rattle.sw_output.specs.Lines.{spaced};
-ghost use Rattle.sw_app_changes.specs.MendTexts.{change_words, cures_text, is_cured, less_of, mend_line, mending_status, mending_text, pair_line, split_words, told_pairs, trial_words};
+ghost use Rattle.sw_app_changes.specs.MendTexts.{change_words, cures_status, cures_text, is_cured, less_of, mend_line, mending_status, mending_text, pair_line, split_words, told_pairs, trial_words};
 
 use crate::mending::{Cures, Mending};
 use std::alloc::{AllocError, Global};
@@ -187,6 +187,16 @@ pub(crate) fn mending_text(
     }
 }
 
+// 0 where some change or some pair frees the network.
+fn cures_status(cures: &Cures) -> u8
+    ensures { result ≡ cures_status cures.now }
+{
+    if is_cured(cures) {
+        return GOOD;
+    }
+    BAD
+}
+
 /// The status of what is found: 0 where the network is free, or some change or some pair of them frees it.
 pub fn mending_status(mending: &Mending) -> u8
     ensures { result ≡ mending_status mending.now }
@@ -194,6 +204,6 @@ pub fn mending_status(mending: &Mending) -> u8
     match mending {
         Mending::Misrouted(_, _, _) => BAD,
         Mending::Free => GOOD,
-        Mending::Cyclic(cures) => { if is_cured(cures) { GOOD } else { BAD } }
+        Mending::Cyclic(cures) => cures_status(cures),
     }
 }
