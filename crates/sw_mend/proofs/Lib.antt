@@ -14,3 +14,4 @@ mod MovedFlows
 mod OwnLinks
 mod Rewired
 mod OfKinds
+mod OneNumber
