@@ -5,6 +5,7 @@ use Rattle.sw_config.specs.Valid.{IsValid}
 use Rattle.sw_search.specs.Laws.{RoutedAndFree}
 use Rattle.sw_mend.specs.Changes.{changed, changed_by_all, pairs_of, parts_away, removals, units_away}
 use Rattle.sw_mend.specs.Splits.{split, splits}
+use Rattle.sw_mend.specs.declared.change.Change.{Change}
 use Rattle.sw_mend.specs.declared.change.Pair.{Pair}
 use Rattle.sw_mend.specs.declared.change.Trial.{Trial}
 use Rattle.sw_mend.specs.declared.change.Trial.TheVariants.{Without, Split}
