@@ -8,8 +8,9 @@ use Rattle.sw_app_changes.specs.declared.mending.Mending.TheVariants.{Misrouted,
 use Rattle.sw_app_changes.specs.MendAnswers.{IsMendAnswer}
 use Rattle.sw_app_changes.specs.Mendings.{IsMending}
 
--- the same changes and pairs
+-- the same limits, changes and pairs
 pub record AreSameCures (cures others : Cures) : Type 0 where
+  pub limiting : cures.limiting ≡ others.limiting
   pub changes : cures.changes.items ≡ others.changes.items
   pub units : cures.units.items ≡ others.units.items
   pub pairs : option_map (λ told. told.items) cures.pairs ≡ option_map (λ told. told.items) others.pairs

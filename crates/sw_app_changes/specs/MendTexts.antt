@@ -3,6 +3,7 @@ use Rattle.std.specs.Prelude.{ℕ, Bool, List, Option, Some, None, [], ◌∷◌
 use Rattle.std.specs.Option.{option_map_or}
 use Rattle.std.specs.Fmt.{decimal}
 use Rattle.sw_config.specs.Entries.{Declaration}
+use Rattle.sw_mend.specs.Limitings.{Limiting}
 use Rattle.sw_mend.specs.declared.change.Change.{Change}
 use Rattle.sw_mend.specs.declared.change.Change.TheVariants.{WithoutReply, WithoutReplies, WithoutFlow, WithoutAnswers, WithoutPort, WithoutEntry, WithoutFlowsOf}
 use Rattle.sw_mend.specs.declared.change.Pair.{Pair}
@@ -14,6 +15,7 @@ use Rattle.sw_output.specs.EntryTexts.{entry_words}
 use Rattle.sw_output.specs.FlowTexts.{flow_name}
 use Rattle.sw_output.specs.Lines.{line, spaced}
 use Rattle.sw_output.specs.VerdictTexts.{misrouted_words}
+use Rattle.sw_app_changes.specs.LimitingTexts.{limiting_line}
 use Rattle.sw_app_changes.specs.declared.mending.Cures.{Cures}
 use Rattle.sw_app_changes.specs.declared.mending.Mending.{Mending}
 use Rattle.sw_app_changes.specs.declared.mending.Mending.TheVariants.{Misrouted, Free, Cyclic}
@@ -66,20 +68,26 @@ no_pair_line = line (codes "no pair of changes frees it" ∷ [])
 abbrev pub told_pairs : Cures → List Pair
 told_pairs cures = option_map_or (λ told. told.items) cures.pairs []
 
--- a line for each change of a part that frees the network, then for each pair, and for each unit
+-- a line for the limit and the slots that free the network, if there are such
+abbrev pub limiting_lines : Declaration → Option Limiting → List ℕ
+limiting_lines d None = []
+limiting_lines d (Some limiting) = limiting_line d limiting
+
+-- that line, then a line for each change of a part that frees the network, for each pair, and for each unit
 abbrev pub cure_lines : Declaration → Cures → List ℕ
 cure_lines d cures =
-    flat_map (mend_line d) cures.changes.items
+    limiting_lines d cures.limiting
+    ++ (flat_map (mend_line d) cures.changes.items
     ++ (flat_map (pair_line d) (told_pairs cures)
-    ++ flat_map (mend_line d) cures.units.items)
+    ++ flat_map (mend_line d) cures.units.items))
 
 -- the list has an element
 abbrev pub has_some : {A : Type 0} → List A → Bool
 has_some xs = not (length xs == 0)
 
--- some change or some pair frees the network
+-- a limit, some change or some pair frees the network
 abbrev pub is_cured : Cures → Bool
-is_cured cures = has_some cures.changes.items || has_some (told_pairs cures) || has_some cures.units.items
+is_cured cures = is_some cures.limiting || has_some cures.changes.items || has_some (told_pairs cures) || has_some cures.units.items
 
 -- those lines, or that nothing frees it
 abbrev pub cures_text : Declaration → Cures → List ℕ

@@ -1,6 +1,7 @@
 -- What `mend` finds of a network (this project's choice).
 use Rattle.std.specs.Prelude.{◌≡◌, ◌==◌, ◌&&◌, Bool, IfSome, is_some, length}
 use Rattle.sw_config.specs.Entries.{Declaration}
+use Rattle.sw_mend.specs.Limitings.{IsLimiting}
 use Rattle.sw_mend.specs.Mends.{AreMends, ArePairMends, AreUnitMends}
 use Rattle.sw_search.specs.Verdicts.{IsVerdict}
 use Rattle.sw_search.specs.declared.verdict.Verdict.TheVariants as verdict
@@ -16,9 +17,10 @@ SaysFree d = (contents : _) × IsVerdict d (verdict.Free contents)
 abbrev pub SaysCyclic : Declaration → Type 0
 SaysCyclic d = (cycle : _) × IsVerdict d (verdict.Cyclic cycle)
 
--- The single changes of parts that free the network, and those of units. Pairs are told exactly where they are asked for and no change of a
+-- The limit on unanswered commands and the slots that free the network first; the single changes of parts that free the network, and those of units. Pairs are told exactly where they are asked for and no change of a
 -- part frees it: those that do.
 pub record AreCures (asked : Bool) (d : Declaration) (cures : Cures) : Type 0 where
+  pub limiting : IsLimiting d cures.limiting
   pub changes : AreMends d cures.changes.items
   pub units : AreUnitMends d cures.units.items
   pub looked_for : is_some cures.pairs ≡ (asked && length cures.changes.items == 0)

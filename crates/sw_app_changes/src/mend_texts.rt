@@ -1,13 +1,14 @@
 //! The lines of `mend`.
 ghost use Rattle.std.specs.Prelude.{◌≡◌, ◌++◌, ◌∷◌, [], IfOk, OnOk, flat_map, string_bytes};
 ghost use Rattle.sw_output.specs.Lines.{spaced};
-ghost use Rattle.sw_app_changes.specs.MendTexts.{change_words, cures_status, cures_text, is_cured, less_of, mend_line, mending_status, mending_text, pair_line, split_words, told_pairs, trial_words};
+ghost use Rattle.sw_app_changes.specs.MendTexts.{change_words, cures_status, cures_text, is_cured, less_of, limiting_lines, mend_line, mending_status, mending_text, pair_line, split_words, told_pairs, trial_words};
 
+use crate::limiting_texts::limiting_words;
 use crate::mending::{Cures, Mending};
 use std::alloc::{AllocError, Global};
 use std::fmt::Write;
 use sw_config::Network;
-use sw_mend::{Change, Pair, TargetLink, Trial};
+use sw_mend::{Change, Limiting, Pair, TargetLink, Trial};
 use sw_output::{entry_words, flow_name, misrouted_text, node_name, switch_name};
 use sw_text::statuses::{BAD, GOOD};
 use sw_topo::Port;
@@ -103,6 +104,24 @@ pub fn trial_words(alloc: Global, network: &Network, trial: &Trial) -> Result<St
     }
 }
 
+// Adds the line of the limit and the slots that free the network, if there are such.
+fn add_limiting(
+    alloc: Global,
+    network: &Network,
+    limiting: &Option<Limiting>,
+    text: &mut String,
+) -> Result<(), AllocError>
+    ensures { OnOk result (string_bytes text.new ≡ string_bytes text.old ++ limiting_lines network.now limiting.now) }
+{
+    match limiting {
+        Some(limiting) => {
+            let words = limiting_words(alloc, network, limiting)?;
+            write!(text, "free {words}\n")
+        }
+        None => Ok(()),
+    }
+}
+
 // Adds the lines of the changes that free the network.
 fn add_mends(
     alloc: Global,
@@ -146,11 +165,14 @@ pub fn told_pairs(cures: &Cures) -> &[Pair]
     }
 }
 
-// Does some change or some pair free the network?
+// Does a limit, some change or some pair free the network?
 fn is_cured(cures: &Cures) -> bool
     ensures { result ≡ is_cured cures.now }
 {
-    !cures.changes.is_empty() || !told_pairs(cures).is_empty() || !cures.units.is_empty()
+    cures.limiting.is_some()
+        || !cures.changes.is_empty()
+        || !told_pairs(cures).is_empty()
+        || !cures.units.is_empty()
 }
 
 // The lines of what frees the network, or that nothing does.
@@ -164,6 +186,7 @@ fn cures_text(alloc: Global, network: &Network, cures: &Cures) -> Result<String,
         return String::from_str(alloc, "no single change frees it\n");
     }
     let mut text = String::new(alloc);
+    add_limiting(alloc, network, &cures.limiting, &mut text)?;
     add_mends(alloc, network, &cures.changes, &mut text)?;
     add_pairs(alloc, network, told_pairs(cures), &mut text)?;
     add_mends(alloc, network, &cures.units, &mut text)?;

@@ -7,7 +7,7 @@ ghost use Rattle.sw_app_changes.specs.Mendings.{AreCures, IsMending};
 use std::alloc::{AllocError, Global};
 use sw_config::Network;
 use sw_flow::{Place, RouteFault};
-use sw_mend::{Pair, Trial, mends, pair_mends, unit_mends};
+use sw_mend::{Limiting, Pair, Trial, find_limiting, mends, pair_mends, unit_mends};
 use sw_search::{Verdict, VerdictWorkers, decide};
 
 /// What `mend` finds of a network. A flow is told by its number, reply flows counted on from the declared ones.
@@ -24,6 +24,8 @@ pub enum Mending {
 /// What frees a network in which packets may wait for one another in a circle.
 #[derive(Drop)]
 pub struct Cures {
+    /// How few commands may be unanswered for the network to be free, and with how many slots.
+    pub limiting: Option<Limiting>,
     /// The single changes of parts that do.
     pub changes: Vec<Trial>,
     /// Where none does and pairs were asked for, the pairs of changes that do together.
@@ -56,11 +58,13 @@ fn find_cures<W: VerdictWorkers>(
 ) -> Result<Cures, AllocError>
     ensures { IfOk result (AreCures pairs network.now) }
 {
+    let limiting = find_limiting(workers, alloc, network)?;
     let changes = mends(workers, alloc, network)?;
     let units = unit_mends(workers, alloc, network)?;
     let is_wanted = pairs && changes.is_empty();
     let pairs = pairs_if(workers, alloc, is_wanted, network)?;
     Ok(Cures {
+        limiting,
         changes,
         pairs,
         units,
@@ -88,7 +92,7 @@ fn by_verdict<W: VerdictWorkers>(
     }
 }
 
-/// What frees the network: where channels can wait for one another the single changes that do; with pairs asked for, where no single change of
+/// What frees the network: where channels can wait for one another limits on unanswered commands and slots, and the single changes that do; with pairs asked for, where no single change of
 /// a part does, the pairs of changes that do; and the units without whose flows it is free. Else that it is free already, or the flow that is
 /// not well routed. The workers share the work.
 ///

@@ -1,5 +1,5 @@
 -- The objects that stand for what frees a network (this project's choice).
-use Rattle.std.specs.Prelude.{ℕ, List, [], ◌∷◌, ◌++◌, codes, map, slice_get}
+use Rattle.std.specs.Prelude.{ℕ, Option, Some, None, List, [], ◌∷◌, ◌++◌, codes, map, slice_get}
 use Rattle.std.specs.Option.{option_map}
 use Rattle.serde_json.specs.Data.{Data, array, object, string, member, no_members}
 use Rattle.serde_json.specs.View.{items_of}
@@ -12,6 +12,8 @@ use Rattle.sw_json.specs.FileValues.{kind_value}
 use Rattle.sw_json.specs.PlaceValues.{flow_name_value}
 use Rattle.sw_json.specs.Simple.{count_or_null, count_value}
 use Rattle.sw_json.specs.VerdictValues.{verdict_value}
+use Rattle.sw_json_changes.specs.LimitingValues.{limiting_line_words, limiting_values}
+use Rattle.sw_mend.specs.Limitings.{Limiting}
 use Rattle.sw_mend.specs.declared.change.Change.{Change}
 use Rattle.sw_mend.specs.declared.change.Change.TheVariants.{WithoutReply, WithoutReplies, WithoutFlow, WithoutAnswers, WithoutPort, WithoutEntry, WithoutFlowsOf}
 use Rattle.sw_mend.specs.declared.change.Pair.{Pair}
@@ -120,12 +122,18 @@ mends_value mends =
     object (member (codes "kind") (string (codes "mends"))
     (member (codes "mends") (array (items_of mends)) no_members))
 
--- each change of a part, then each pair, and each unit
+-- a limit and slots that free it together
+abbrev pub limiting_mends : Declaration → Option Limiting → List Data
+limiting_mends d None = []
+limiting_mends d (Some limiting) = told_mend (limiting_values d limiting) (limiting_line_words d limiting) ∷ []
+
+-- the limit and the slots, then each change of a part, each pair, and each unit
 abbrev pub cure_values : Declaration → Cures → List Data
 cure_values d cures =
-    map (mend_value d) cures.changes.items
+    limiting_mends d cures.limiting
+    ++ (map (mend_value d) cures.changes.items
     ++ (map (pair_value d) (told_pairs cures)
-    ++ map (mend_value d) cures.units.items)
+    ++ map (mend_value d) cures.units.items))
 
 -- what is found: the verdict, where a flow is not well routed; else that the network is free, or what frees it
 abbrev pub mending_value : Declaration → Mending → Data

@@ -7,8 +7,9 @@ ghost use Rattle.sw_config.specs.Entries.{routes_of};
 ghost use Rattle.sw_json.specs.Objects.{member_value, object_of};
 ghost use Rattle.sw_json.specs.VerdictValues.{verdict_value};
 ghost use Rattle.sw_search.specs.Verdicts.{IsVerdict};
-ghost use Rattle.sw_json_changes.specs.MendValues.{change_value, cure_values, first_value, last_value, mend_value, mend_words, mending_value, mends_value, of_entry, of_nodes, of_port, pair_value, pair_words, told_mend, trial_value};
+ghost use Rattle.sw_json_changes.specs.MendValues.{change_value, cure_values, first_value, last_value, limiting_mends, mend_value, mend_words, mending_value, mends_value, of_entry, of_nodes, of_port, pair_value, pair_words, told_mend, trial_value};
 
+use crate::limiting_values::{limiting_line, limiting_values};
 use serde_json::Value;
 use std::alloc::{AllocError, Global};
 use sw_app_changes::{Cures, Mending, change_words, told_pairs, trial_words};
@@ -18,7 +19,7 @@ use sw_json::{
     Member, add_value, kind_value, object_of_five, object_of_four, object_of_three, object_of_two,
     verdict_value,
 };
-use sw_mend::{Change, Pair, Trial};
+use sw_mend::{Change, Limiting, Pair, Trial};
 use sw_output::{flow_name, node_name, switch_name};
 use sw_route::Route;
 use sw_search::Verdict;
@@ -228,6 +229,25 @@ fn pair_value(alloc: Global, network: &Network, pair: &Pair) -> Result<Value, Al
     told_mend(alloc, changes, pair_words(alloc, network, pair))
 }
 
+// Adds an object for the limit and the slots that free the network together, if there are such.
+fn add_limiting(
+    alloc: Global,
+    network: &Network,
+    limiting: &Option<Limiting>,
+    values: &mut Vec<Value>,
+) -> Result<(), AllocError>
+    ensures { OnOk result (map view values.new.items ≡ map view values.old.items ++ limiting_mends network.now limiting.now) }
+{
+    match limiting {
+        Some(limiting) => {
+            let changes = limiting_values(alloc, network, limiting)?;
+            let mend = told_mend(alloc, changes, limiting_line(alloc, network, limiting));
+            add_value(values, mend)
+        }
+        None => Ok(()),
+    }
+}
+
 // Adds an object for each change.
 fn add_mends(
     alloc: Global,
@@ -258,11 +278,12 @@ fn add_pairs(
     Ok(())
 }
 
-// An object for each change of a part, then for each pair, and for each unit.
+// An object for the limit and the slots, then for each change of a part, each pair, and each unit.
 fn cure_values(alloc: Global, network: &Network, cures: &Cures) -> Result<Vec<Value>, AllocError>
     ensures { IfOk result (λ v. map view v.items ≡ cure_values network.now cures.now) }
 {
     let mut values = Vec::new(alloc);
+    add_limiting(alloc, network, &cures.limiting, &mut values)?;
     add_mends(alloc, network, &cures.changes, &mut values)?;
     add_pairs(alloc, network, told_pairs(cures), &mut values)?;
     add_mends(alloc, network, &cures.units, &mut values)?;
