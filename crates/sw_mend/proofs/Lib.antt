@@ -20,3 +20,4 @@ pub mod LimitedFlows
 pub mod Firsts
 pub mod FirstLimits
 pub mod WantedSlots
+mod WithOutstanding
