@@ -49,6 +49,9 @@ class Sample:
             **({"outstanding": reply["outstanding"]} if reply and "outstanding" in reply else {}),
         }
 
-    def verdict(self):
+    def network(self):
         switches = [(name, {b: (ports, delete) for low, high, ports, delete in table for b in range(low, high + 1)}) for name, table in self.switches]
-        return Verdict(Network(self.nodes, switches, self.links, self.flows, self.slots, self.outstanding))
+        return Network(self.nodes, switches, self.links, self.flows, self.slots, self.outstanding)
+
+    def verdict(self):
+        return Verdict(self.network())

@@ -89,6 +89,7 @@ def refusal(line):
 
 CHANGES = (
     (r"the reply of (\S+)", lambda it: {"kind": "reply", "flow": it[1]}),
+    (r"the replies to the flows from (\S+) to (\S+)", lambda it: {"from": it[1], "kind": "replies between", "to": it[2]}),
     (r"the flow (\S+)", lambda it: {"kind": "flow", "flow": it[1]}),
     (r"any reply of (\S+)", lambda it: {"kind": "replies", "node": it[1]}),
     (r"port (\d+) for address(?:es)? (\d+)(?: to (\d+))? at (\S+)", lambda it: {"kind": "port", "port": int(it[1]), **addresses(it[2], it[3]), "switch": it[4]}),

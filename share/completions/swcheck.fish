@@ -96,7 +96,7 @@ complete -c swcheck -n '__swcheck_at rmap' -l hints -x -a 'auto never' -d 'auto:
 complete -c swcheck -n '__swcheck_at rmap' -s h -l help -d 'Print help'
 complete -c swcheck -n '__swcheck_at rmap 0' -k -a '(__fish_complete_suffix .toml)' -d 'A network file'
 complete -c swcheck -n '__swcheck_at rmap 2' -a 'read write' -d 'read or write'
-complete -c swcheck -n '__swcheck_at mend' -l pairs -d 'Where no single change makes it free, print each pair of them that does'
+complete -c swcheck -n '__swcheck_at mend' -l pairs -d 'Where no single change but of a whole unit frees it, print each pair that does'
 complete -c swcheck -n '__swcheck_at mend' -l json -d 'Print the answer as one JSON object'
 complete -c swcheck -n '__swcheck_at mend' -l hints -x -a 'auto never' -d 'auto: tell on standard error how to mend a network file; never: do not'
 complete -c swcheck -n '__swcheck_at mend' -s h -l help -d 'Print help'

@@ -1,6 +1,5 @@
 -- What is found of a network, and what is answered by it.
-use Rattle.std.proofs.Common.{◌≡◌, ◌∙◌, ℕ, Bool, false, Global, IfOk, Vec, string_bytes, subst, sym}
-use Rattle.std.proofs.lemmas.Bool.{false≢true}
+use Rattle.std.proofs.Common.{◌≡◌, ℕ, Bool, IfOk, string_bytes, subst}
 use Rattle.std.specs.Prelude.{Result, Ok, Err}
 use Rattle.std.specs.declared.alloc.AllocError.{AllocError}
 use Rattle.sw_text.specs.declared.answer.Answer.{Answer}
@@ -10,23 +9,22 @@ use Rattle.sw_config.specs.Entries.{Declaration}
 use Rattle.sw_cycle.specs.Cycles.{CycleEntry}
 use Rattle.sw_flow.specs.declared.fault.RouteFault.{RouteFault}
 use Rattle.sw_flow.specs.declared.place.Place.{Place}
-use Rattle.sw_mend.specs.Mends.{AreMends}
-use Rattle.sw_mend.specs.declared.change.Trial.{Trial}
 use Rattle.sw_search.specs.Verdicts.{IsVerdict}
 use Rattle.sw_search.specs.declared.verdict.Verdict.{Verdict}
 use Rattle.sw_search.specs.declared.verdict.Verdict.TheVariants as verdict
+use Rattle.sw_app_changes.specs.declared.mending.Cures.{Cures}
 use Rattle.sw_app_changes.specs.declared.mending.Mending.{Mending}
-use Rattle.sw_app_changes.specs.declared.mending.Mending.TheVariants.{Misrouted, Free, Single}
+use Rattle.sw_app_changes.specs.declared.mending.Mending.TheVariants.{Misrouted, Free, Cyclic}
 use Rattle.sw_app_changes.specs.MendAnswers.{IsNetworkAnswer}
 use Rattle.sw_app_changes.specs.MendTexts.{mending_status, mending_text}
-use Rattle.sw_app_changes.specs.Mendings.{IsMending}
+use Rattle.sw_app_changes.specs.Mendings.{AreCures, IsMending}
 
 pub answered : (pairs : Bool) (d : Declaration) (m : Mending) (r : Result Answer AllocError) → IsMending pairs d m
     → IfOk r (λ a. Says (mending_text d m) (mending_status m) (string_bytes a.text) a.status) → IfOk r (λ a. IsNetworkAnswer pairs d (string_bytes a.text) a.status)
 answered pairs d m (Ok a) is h = (m, is, h)
 answered pairs d m (Err x) is h = h
 
--- by the verdict: the flow that is not well routed, that the network is free, and changes where pairs are not asked for
+-- by the verdict: the flow that is not well routed, that the network is free, and what frees it
 module _ (pairs : Bool) (d : Declaration) (v : Verdict) (is : IsVerdict d v) where
   pub misrouted : (flow : ℕ) (place : Place) (fault : RouteFault) → v ≡ verdict.Misrouted flow place fault → IsMending pairs d (Misrouted flow place fault)
   misrouted flow place fault same = subst (IsVerdict d) same is
@@ -34,5 +32,5 @@ module _ (pairs : Bool) (d : Declaration) (v : Verdict) (is : IsVerdict d v) whe
   pub free : (contents : Contents) → v ≡ verdict.Free contents → IsMending pairs d Free
   free contents same = (contents, subst (IsVerdict d) same is)
 
-  pub unasked : (cycle : CycleEntry) (told : Vec Trial Global) → v ≡ verdict.Cyclic cycle → AreMends d told.items → pairs ≡ false → IsMending pairs d (Single told)
-  unasked cycle told same are not = ((cycle, subst (IsVerdict d) same is), are, λ asked. absurd (false≢true (sym not ∙ asked)))
+  pub cyclic : (cycle : CycleEntry) (cures : Cures) → v ≡ verdict.Cyclic cycle → AreCures pairs d cures → IsMending pairs d (Cyclic cures)
+  cyclic cycle cures same are = ((cycle, subst (IsVerdict d) same is), are)

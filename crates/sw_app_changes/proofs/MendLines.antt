@@ -1,13 +1,12 @@
 -- The lines of what frees a network, one after another, or that nothing does.
-use Rattle.std.proofs.Common.{◌≡◌, ◌∙◌, ◌≤◌, ◌==◌, ℕ, false, true, List, [], ◌∷◌, ◌++◌, ap, codes, length, sym, take}
-use Rattle.std.proofs.lemmas.Bool.{eqb-true, false≢true}
-use Rattle.std.proofs.lemmas.List.{nil_from_length}
+use Rattle.std.proofs.Common.{◌≡◌, ◌∙◌, ℕ, Bool, false, true, List, [], ◌++◌, ap, append_assoc, codes, is_some, sym}
+use Rattle.std.specs.Prelude.{if◌then◌else◌}
 use Rattle.std.specs.List.{flat_map}
 use Rattle.sw_config.specs.Entries.{Declaration}
 use Rattle.sw_mend.specs.declared.change.Pair.{Pair}
 use Rattle.sw_mend.specs.declared.change.Trial.{Trial}
-use Rattle.sw_output.proofs.EachLine.{all_added}
-use Rattle.sw_app_changes.specs.MendTexts.{change_words, mend_line, pair_line, trial_words}
+use Rattle.sw_app_changes.specs.declared.mending.Cures.{Cures}
+use Rattle.sw_app_changes.specs.MendTexts.{change_words, cure_lines, cures_text, is_cured, mend_line, no_pair_line, none_line, pair_line, told_pairs, trial_words}
 
 pub mend_told : (d : Declaration) (change : Trial) (words : List ℕ) → words ≡ trial_words d change → codes "free " ++ (words ++ codes "\n") ≡ mend_line d change
 mend_told d change words is = ap (λ l. codes "free " ++ (l ++ codes "\n")) is
@@ -18,13 +17,18 @@ pair_told d pair first second first_is second_is =
     ap (λ l. codes "free " ++ (l ++ (codes " and " ++ (second ++ codes "\n")))) first_is
     ∙ ap (λ l. codes "free " ++ (change_words d pair.first ++ (codes " and " ++ (l ++ codes "\n")))) second_is
 
--- ---- a text that is by cases of the list
+-- where nothing frees the network, and where something does
+pub none_told : (d : Declaration) (cures : Cures) (text : List ℕ) (looked_for : Bool) → is_cured cures ≡ false → is_some cures.pairs ≡ looked_for
+    → text ≡ (if looked_for then no_pair_line else none_line) → text ≡ cures_text d cures
+none_told d cures text looked_for none looked is =
+    is ∙ sym (λ t. if none t then cure_lines d cures else if looked t then no_pair_line else none_line)
 
-module _ {X : Type 0} (told : List X → List ℕ) where
-  pub none_told : (xs : List X) (text : List ℕ) → (length xs == 0) ≡ true → text ≡ told [] → text ≡ told xs
-  none_told xs text none is = is ∙ ap told (sym (nil_from_length xs (eqb-true (length xs) 0 none)))
-
-  pub some_told : (f : X → List ℕ) (xs : List X) (i : ℕ) (text : List ℕ) → ((x : X) (rest : List X) → flat_map f (x ∷ rest) ≡ told (x ∷ rest)) → (length xs == 0) ≡ false
-      → length xs ≤ i → text ≡ flat_map f (take i xs) → text ≡ told xs
-  some_told f [] i text each some ended so_far = absurd (false≢true (sym some))
-  some_told f (x ∷ xs) i text each some ended so_far = all_added f (x ∷ xs) i [] text ended so_far ∙ each x xs
+pub some_told : (d : Declaration) (cures : Cures) (start first second text : List ℕ) → is_cured cures ≡ true → start ≡ []
+    → first ≡ start ++ flat_map (mend_line d) cures.changes.items → second ≡ first ++ flat_map (pair_line d) (told_pairs cures)
+    → text ≡ second ++ flat_map (mend_line d) cures.units.items → text ≡ cures_text d cures
+some_told d cures start first second text some none changes with_pairs units =
+    let c : List ℕ = flat_map (mend_line d) cures.changes.items in
+    let p : List ℕ = flat_map (pair_line d) (told_pairs cures) in
+    let u : List ℕ = flat_map (mend_line d) cures.units.items in
+    units ∙ ap (λ l. l ++ u) (with_pairs ∙ ap (λ l. l ++ p) (changes ∙ ap (λ l. l ++ c) none)) ∙ append_assoc c p u
+    ∙ sym (ap (λ (b : Bool). if b then cure_lines d cures else if is_some cures.pairs then no_pair_line else none_line) some)

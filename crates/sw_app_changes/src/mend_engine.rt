@@ -9,8 +9,8 @@ use sw_search::VerdictWorkers;
 use sw_text::{Ended, MAX_TEXT, read_whole, tell_answer, tell_unread};
 
 /// Which single changes make the network of a file free of deadlocks, a line each: 0 where some change does or the network is free
-/// already, and 1 where none does or a flow is not well routed. With pairs asked for, where no single change does, which pairs of single
-/// changes do, each pair in a line: 0 where some pair does, and 1 where none does. The workers share the work.
+/// already, and 1 where none does or a flow is not well routed. With pairs asked for, where no single change of a part does, which pairs of
+/// single changes do too, each pair in a line before those of units: 0 where some pair does. The workers share the work.
 pub fn mend<T: VerdictWorkers, R: Read, W: Write>(
     workers: &T,
     alloc: Global,

@@ -1,7 +1,7 @@
 //! Laws of the definitions. Such a function does nothing: it is the proof of its clause.
 ghost use Rattle.sw_app_changes.specs.MendLaws.{MendHasOneAnswer, MendingsAreDetermined};
 
-use sw_mend::laws::{mends_are_determined, pairs_are_determined};
+use sw_mend::laws::{mends_are_determined, pairs_are_determined, unit_mends_are_determined};
 use sw_search::laws::verdicts_are_determined;
 
 /// What is found of a network is determined, with pairs asked for or not: its kind, and the flow with its place and fault, or the changes.
@@ -9,6 +9,7 @@ pub fn mendings_are_determined()
     ensures { MendingsAreDetermined }
 {
     mends_are_determined();
+    unit_mends_are_determined();
     pairs_are_determined();
     verdicts_are_determined();
 }

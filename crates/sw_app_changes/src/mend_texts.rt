@@ -1,13 +1,14 @@
 //! The lines of `mend`.
-ghost use Rattle.std.specs.Prelude.{◌≡◌, ◌∷◌, [], IfOk, string_bytes};
+ghost use Rattle.std.specs.Prelude.{◌≡◌, ◌++◌, ◌∷◌, [], IfOk, OnOk, flat_map, string_bytes};
 ghost use Rattle.sw_output.specs.Lines.{spaced};
-ghost use Rattle.sw_app_changes.specs.MendTexts.{change_words, less_of, mending_status, mending_text, mends_status, mends_text, pairs_text, split_words, trial_words};
+ghost use Rattle.sw_app_changes.specs.MendTexts.{change_words, cures_status, cures_text, is_cured, less_of, limiting_lines, mend_line, mending_status, mending_text, pair_line, split_words, told_pairs, trial_words};
 
-use crate::mending::Mending;
+use crate::limiting_texts::limiting_words;
+use crate::mending::{Cures, Mending};
 use std::alloc::{AllocError, Global};
 use std::fmt::Write;
 use sw_config::Network;
-use sw_mend::{Change, Pair, TargetLink, Trial};
+use sw_mend::{Change, Limiting, Pair, TargetLink, Trial};
 use sw_output::{entry_words, flow_name, misrouted_text, node_name, switch_name};
 use sw_text::statuses::{BAD, GOOD};
 use sw_topo::Port;
@@ -51,6 +52,11 @@ pub fn change_words(alloc: Global, network: &Network, change: &Change) -> Result
     match change {
         Change::WithoutReply(flow) => {
             with_name(alloc, "without the reply of", flow_name(network, *flow))
+        }
+        Change::WithoutReplies { from, to } => {
+            let from = node_name(network, *from);
+            let to = node_name(network, *to);
+            format!(in alloc; "without the replies to the flows from {from} to {to}")
         }
         Change::WithoutFlow(flow) => {
             with_name(alloc, "without the flow", flow_name(network, *flow))
@@ -98,34 +104,92 @@ pub fn trial_words(alloc: Global, network: &Network, trial: &Trial) -> Result<St
     }
 }
 
-// The lines of the changes that free the network, or that there is none.
-fn mends_text(alloc: Global, network: &Network, changes: &[Trial]) -> Result<String, AllocError>
-    ensures { IfOk result (λ s. string_bytes s ≡ mends_text network.now changes.now) }
+// Adds the line of the limit and the slots that free the network, if there are such.
+fn add_limiting(
+    alloc: Global,
+    network: &Network,
+    limiting: &Option<Limiting>,
+    text: &mut String,
+) -> Result<(), AllocError>
+    ensures { OnOk result (string_bytes text.new ≡ string_bytes text.old ++ limiting_lines network.now limiting.now) }
 {
-    if changes.is_empty() {
-        return String::from_str(alloc, "no single change frees it\n");
+    match limiting {
+        Some(limiting) => {
+            let words = limiting_words(alloc, network, limiting)?;
+            write!(text, "free {words}\n")
+        }
+        None => Ok(()),
     }
-    let mut text = String::new(alloc);
+}
+
+// Adds the lines of the changes that free the network.
+fn add_mends(
+    alloc: Global,
+    network: &Network,
+    changes: &[Trial],
+    text: &mut String,
+) -> Result<(), AllocError>
+    ensures { OnOk result (string_bytes text.new ≡ string_bytes text.old ++ flat_map (mend_line network.now) changes.now) }
+{
     for change in changes {
         let words = trial_words(alloc, network, change)?;
         write!(text, "free {words}\n")?;
     }
-    Ok(text)
+    Ok(())
 }
 
-// The lines of the pairs of changes that free it, or that there is none.
-fn pairs_text(alloc: Global, network: &Network, pairs: &[Pair]) -> Result<String, AllocError>
-    ensures { IfOk result (λ s. string_bytes s ≡ pairs_text network.now pairs.now) }
+// Adds the lines of the pairs of changes that free it.
+fn add_pairs(
+    alloc: Global,
+    network: &Network,
+    pairs: &[Pair],
+    text: &mut String,
+) -> Result<(), AllocError>
+    ensures { OnOk result (string_bytes text.new ≡ string_bytes text.old ++ flat_map (pair_line network.now) pairs.now) }
 {
-    if pairs.is_empty() {
-        return String::from_str(alloc, "no pair of changes frees it\n");
-    }
-    let mut text = String::new(alloc);
     for pair in pairs {
         let first = change_words(alloc, network, &pair.first)?;
         let second = change_words(alloc, network, &pair.second)?;
         write!(text, "free {first} and {second}\n")?;
     }
+    Ok(())
+}
+
+/// The pairs that free the network; none where they were not looked for.
+pub fn told_pairs(cures: &Cures) -> &[Pair]
+    ensures { result.now ≡ told_pairs cures.now }
+{
+    match &cures.pairs {
+        Some(pairs) => pairs,
+        None => &[],
+    }
+}
+
+// Does a limit, some change or some pair free the network?
+fn is_cured(cures: &Cures) -> bool
+    ensures { result ≡ is_cured cures.now }
+{
+    cures.limiting.is_some()
+        || !cures.changes.is_empty()
+        || !told_pairs(cures).is_empty()
+        || !cures.units.is_empty()
+}
+
+// The lines of what frees the network, or that nothing does.
+fn cures_text(alloc: Global, network: &Network, cures: &Cures) -> Result<String, AllocError>
+    ensures { IfOk result (λ s. string_bytes s ≡ cures_text network.now cures.now) }
+{
+    if !is_cured(cures) {
+        if cures.pairs.is_some() {
+            return String::from_str(alloc, "no pair of changes frees it\n");
+        }
+        return String::from_str(alloc, "no single change frees it\n");
+    }
+    let mut text = String::new(alloc);
+    add_limiting(alloc, network, &cures.limiting, &mut text)?;
+    add_mends(alloc, network, &cures.changes, &mut text)?;
+    add_pairs(alloc, network, told_pairs(cures), &mut text)?;
+    add_mends(alloc, network, &cures.units, &mut text)?;
     Ok(text)
 }
 
@@ -142,19 +206,18 @@ pub(crate) fn mending_text(
             misrouted_text(alloc, network, *flow, *place, *fault)
         }
         Mending::Free => String::from_str(alloc, "free already\n"),
-        Mending::Single(changes) => mends_text(alloc, network, changes),
-        Mending::Pairs(pairs) => pairs_text(alloc, network, pairs),
+        Mending::Cyclic(cures) => cures_text(alloc, network, cures),
     }
 }
 
-// 0 where some change, or some pair of them, frees the network.
-fn mends_status<T>(found: &[T]) -> u8
-    ensures { result ≡ mends_status found.now }
+// 0 where some change or some pair frees the network.
+fn cures_status(cures: &Cures) -> u8
+    ensures { result ≡ cures_status cures.now }
 {
-    match found {
-        [] => BAD,
-        _ => GOOD,
+    if is_cured(cures) {
+        return GOOD;
     }
+    BAD
 }
 
 /// The status of what is found: 0 where the network is free, or some change or some pair of them frees it.
@@ -164,7 +227,6 @@ pub fn mending_status(mending: &Mending) -> u8
     match mending {
         Mending::Misrouted(_, _, _) => BAD,
         Mending::Free => GOOD,
-        Mending::Single(changes) => mends_status(changes),
-        Mending::Pairs(pairs) => mends_status(pairs),
+        Mending::Cyclic(cures) => cures_status(cures),
     }
 }

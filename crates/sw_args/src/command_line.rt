@@ -182,7 +182,7 @@ const MEND: &Subcommand = &Subcommand {
         (
             "pairs",
             Takes::Flag,
-            "Where no single change makes it free, print each pair of them that does",
+            "Where no single change but of a whole unit frees it, print each pair that does",
         ),
         JSON,
     ],

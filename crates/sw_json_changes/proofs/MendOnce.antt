@@ -2,9 +2,9 @@
 use Rattle.std.proofs.Common.{◌≡◌, ◌∙◌, ℕ, Bool, List, [], ◌∷◌, ◌++◌, ap, append_assoc, codes, map, refl, sym}
 use Rattle.std.specs.Prelude.{Err, None, Ok, Option, Result, Some}
 use Rattle.serde_json.specs.Data.{Data}
-use Rattle.sw_app_changes.proofs.OneMending.{one_status}
+use Rattle.sw_app_changes.proofs.OneMending.{one_status, same_pairs}
 use Rattle.sw_app_changes.specs.declared.mending.Mending.{Mending}
-use Rattle.sw_app_changes.specs.declared.mending.Mending.TheVariants.{Misrouted, Free, Single, Pairs}
+use Rattle.sw_app_changes.specs.declared.mending.Mending.TheVariants.{Misrouted, Free, Cyclic}
 use Rattle.sw_app_changes.specs.MendLaws as text_laws
 use Rattle.sw_app_changes.specs.MendAnswers as text
 use Rattle.sw_app_changes.specs.MendTexts.{change_words, mending_text}
@@ -13,7 +13,6 @@ use Rattle.sw_text.specs.FaultTexts.{fault_text}
 use Rattle.sw_config.specs.Entries.{Declaration}
 use Rattle.sw_file.specs.Network.{network_text}
 use Rattle.sw_mend.specs.declared.change.Pair.{Pair}
-use Rattle.sw_mend.specs.declared.change.Trial.{Trial}
 use Rattle.sw_output.specs.Lines.{line}
 use Rattle.sw_search.specs.declared.verdict.Verdict.TheVariants as verdict
 use Rattle.sw_text.specs.declared.fault.TextFault.{TextFault}
@@ -27,8 +26,9 @@ use Rattle.sw_json_changes.specs.MendValues.{mend_value, mending_value, mends_va
 one_value : (d : Declaration) (m n : Mending) → text_laws.IsSameMending m n → mending_value d m ≡ mending_value d n
 one_value d (Misrouted i p fault) (Misrouted j q other) same = λ t. verdict_value d (verdict.Misrouted (same.0 t) (same.1 t) (same.2 t))
 one_value d Free Free same = refl
-one_value d (Single told) (Single other) same = ap (λ (l : List Trial). mends_value (map (mend_value d) l)) same
-one_value d (Pairs told) (Pairs other) same = ap (λ (l : List Pair). mends_value (map (pair_value d) l)) same
+one_value d (Cyclic cures) (Cyclic other) same =
+    let pairs = same_pairs cures other same in
+    λ t. mends_value (map (mend_value d) (same.changes t) ++ (map (pair_value d) (pairs t) ++ map (mend_value d) (same.units t)))
 one_value d m n same = absurd same
 
 module _ (one_mending : text_laws.MendingsAreDetermined) where

@@ -1,23 +1,26 @@
 -- The values of what frees a network have no floats and are not deep.
-use Rattle.std.proofs.Common.{[], ◌∷◌, arith}
-use Rattle.std.proofs.lemmas.List.Elements.{All-cons, All-nil}
+use Rattle.std.proofs.Common.{[], ◌∷◌, ◌++◌, List, All, arith, map}
+use Rattle.std.proofs.lemmas.List.Elements.{All-append, All-cons, All-nil}
+use Rattle.serde_json.specs.Data.{Data}
+use Rattle.sw_app_changes.specs.MendTexts.{told_pairs}
 use Rattle.sw_app_changes.specs.declared.mending.Mending.{Mending}
-use Rattle.sw_app_changes.specs.declared.mending.Mending.TheVariants.{Misrouted, Free, Single, Pairs}
+use Rattle.sw_app_changes.specs.declared.mending.Mending.TheVariants.{Misrouted, Free, Cyclic}
 use Rattle.sw_config.specs.Entries.{Declaration}
 use Rattle.sw_json.specs.Plain.{IsPlain}
-use Rattle.sw_json.proofs.Plain.{count_or_null_plain, count_plain, list_plain, made_plain, no_more, object_plain, plain_at_more, text_plain, with_member}
+use Rattle.sw_json.proofs.Plain.{count_or_null_plain, count_plain, list_plain, no_more, object_plain, plain_at_more, text_plain, with_member}
 use Rattle.sw_json.proofs.PlainValues.{verdict_plain}
 use Rattle.sw_mend.specs.declared.change.Change.{Change}
-use Rattle.sw_mend.specs.declared.change.Change.TheVariants.{WithoutReply, WithoutFlow, WithoutAnswers, WithoutPort, WithoutEntry, WithoutFlowsOf}
+use Rattle.sw_mend.specs.declared.change.Change.TheVariants.{WithoutReply, WithoutReplies, WithoutFlow, WithoutAnswers, WithoutPort, WithoutEntry, WithoutFlowsOf}
 use Rattle.sw_mend.specs.declared.change.Pair.{Pair}
 use Rattle.sw_mend.specs.declared.change.Trial.{Trial}
 use Rattle.sw_mend.specs.declared.change.Trial.TheVariants.{Without, Split}
 use Rattle.sw_search.specs.declared.verdict.Verdict.TheVariants as verdict
-use Rattle.sw_json_changes.specs.MendValues.{change_value, mend_value, mending_value, pair_value, trial_value}
+use Rattle.sw_json_changes.specs.MendValues.{change_value, cure_values, mend_value, mending_value, pair_value, trial_value}
 use Rattle.sw_json_changes.specs.MendLaws.{MendsArePlain}
 
 change_plain : (d : Declaration) (change : Change) → IsPlain 1 (change_value d change)
 change_plain d (WithoutReply flow) = object_plain 0 (with_member text_plain (with_member text_plain no_more))
+change_plain d (WithoutReplies from to) = object_plain 0 (with_member text_plain (with_member text_plain (with_member text_plain no_more)))
 change_plain d (WithoutFlow flow) = object_plain 0 (with_member text_plain (with_member text_plain no_more))
 change_plain d (WithoutAnswers node) = object_plain 0 (with_member text_plain (with_member text_plain no_more))
 change_plain d (WithoutPort switch entry port) =
@@ -42,14 +45,21 @@ pair_plain d pair =
     (All-cons (IsPlain 1) (change_value d pair.first) (change_value d pair.second ∷ []) (change_plain d pair.first)
     (All-cons (IsPlain 1) (change_value d pair.second) [] (change_plain d pair.second) (All-nil (IsPlain 1))))) (with_member text_plain no_more))
 
+each_plain : {A : Type 0} (f : A → Data) → ((x : A) → IsPlain 3 (f x)) → (xs : List A) → All (IsPlain 3) (map f xs)
+each_plain f each [] = All-nil (IsPlain 3)
+each_plain f each (x ∷ xs) = All-cons (IsPlain 3) (f x) (map f xs) (each x) (each_plain f each xs)
+
 pub mends_plain : MendsArePlain
 mends_plain = record {
-  single = λ d told. object_plain 4 (with_member text_plain (with_member (made_plain 3 (mend_value d) (mend_plain d) told) no_more));
-  pairs = λ d told. object_plain 4 (with_member text_plain (with_member (made_plain 3 (pair_value d) (pair_plain d) told) no_more));
+  cures = λ d cures. object_plain 4 (with_member text_plain (with_member (list_plain 3 (cure_values d cures)
+      (All-append (IsPlain 3) (map (mend_value d) cures.changes.items) (map (pair_value d) (told_pairs cures) ++ map (mend_value d) cures.units.items)
+      (each_plain (mend_value d) (mend_plain d) cures.changes.items)
+      (All-append (IsPlain 3) (map (pair_value d) (told_pairs cures)) (map (mend_value d) cures.units.items)
+      (each_plain (pair_value d) (pair_plain d) (told_pairs cures))
+      (each_plain (mend_value d) (mend_plain d) cures.units.items)))) no_more));
 }
 
 pub mending_plain : (d : Declaration) (m : Mending) → IsPlain 5 (mending_value d m)
 mending_plain d (Misrouted i p fault) = plain_at_more 4 5 _ (omega arith) (verdict_plain d (verdict.Misrouted i p fault))
 mending_plain d Free = object_plain 4 (with_member text_plain no_more)
-mending_plain d (Single told) = mends_plain.single d told.items
-mending_plain d (Pairs told) = mends_plain.pairs d told.items
+mending_plain d (Cyclic cures) = mends_plain.cures d cures

@@ -1,6 +1,7 @@
 -- Laws of what `mend` answers with an object of JSON.
-use Rattle.std.specs.Prelude.{◌≡◌, ◌++◌, Bool, ℕ, List, Option, codes, map}
+use Rattle.std.specs.Prelude.{◌≡◌, ◌++◌, Bool, ℕ, List, Option, codes}
 use Rattle.sw_app_changes.specs.MendAnswers.{IsMendAnswer}
+use Rattle.sw_app_changes.specs.declared.mending.Cures.{Cures}
 use Rattle.sw_app_changes.specs.MendTexts.{mend_line, pair_line}
 use Rattle.sw_text.specs.Ends.{IfLimited}
 use Rattle.sw_config.specs.Entries.{Declaration}
@@ -9,7 +10,7 @@ use Rattle.sw_mend.specs.declared.change.Pair.{Pair}
 use Rattle.sw_mend.specs.declared.change.Trial.{Trial}
 use Rattle.sw_json.specs.Laws.{AreOneButForFaults, HaveOneStatus}
 use Rattle.sw_json_changes.specs.MendJson.{IsMendJson}
-use Rattle.sw_json_changes.specs.MendValues.{mend_value, mend_words, mends_value, pair_value, pair_words}
+use Rattle.sw_json_changes.specs.MendValues.{cure_values, mend_words, mends_value, pair_words}
 use Rattle.sw_json.specs.Plain.{IsPlain}
 
 -- `mend` has one answer for each file and path, with pairs asked for or not
@@ -29,5 +30,4 @@ pub record MendTextsAreLines : Type 0 where
 
 -- the value of what frees a network has a text that reads back: an object with a list of objects, in each a list of changes
 pub record MendsArePlain : Type 0 where
-  pub single : (d : Declaration) (told : List Trial) → IsPlain 5 (mends_value (map (mend_value d) told))
-  pub pairs : (d : Declaration) (told : List Pair) → IsPlain 5 (mends_value (map (pair_value d) told))
+  pub cures : (d : Declaration) (cures : Cures) → IsPlain 5 (mends_value (cure_values d cures))

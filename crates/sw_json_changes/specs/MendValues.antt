@@ -1,18 +1,21 @@
 -- The objects that stand for what frees a network (this project's choice).
-use Rattle.std.specs.Prelude.{ℕ, List, [], ◌∷◌, codes, map, slice_get}
+use Rattle.std.specs.Prelude.{ℕ, Option, Some, None, List, [], ◌∷◌, ◌++◌, codes, map, slice_get}
 use Rattle.std.specs.Option.{option_map}
 use Rattle.serde_json.specs.Data.{Data, array, object, string, member, no_members}
 use Rattle.serde_json.specs.View.{items_of}
-use Rattle.sw_app_changes.specs.MendTexts.{change_words, trial_words}
+use Rattle.sw_app_changes.specs.MendTexts.{change_words, told_pairs, trial_words}
+use Rattle.sw_app_changes.specs.declared.mending.Cures.{Cures}
 use Rattle.sw_app_changes.specs.declared.mending.Mending.{Mending}
-use Rattle.sw_app_changes.specs.declared.mending.Mending.TheVariants.{Misrouted, Free, Single, Pairs}
+use Rattle.sw_app_changes.specs.declared.mending.Mending.TheVariants.{Misrouted, Free, Cyclic}
 use Rattle.sw_config.specs.Entries.{Declaration, routes_of}
 use Rattle.sw_json.specs.FileValues.{kind_value}
 use Rattle.sw_json.specs.PlaceValues.{flow_name_value}
 use Rattle.sw_json.specs.Simple.{count_or_null, count_value}
 use Rattle.sw_json.specs.VerdictValues.{verdict_value}
+use Rattle.sw_json_changes.specs.LimitingValues.{limiting_line_words, limiting_values}
+use Rattle.sw_mend.specs.Limitings.{Limiting}
 use Rattle.sw_mend.specs.declared.change.Change.{Change}
-use Rattle.sw_mend.specs.declared.change.Change.TheVariants.{WithoutReply, WithoutFlow, WithoutAnswers, WithoutPort, WithoutEntry, WithoutFlowsOf}
+use Rattle.sw_mend.specs.declared.change.Change.TheVariants.{WithoutReply, WithoutReplies, WithoutFlow, WithoutAnswers, WithoutPort, WithoutEntry, WithoutFlowsOf}
 use Rattle.sw_mend.specs.declared.change.Pair.{Pair}
 use Rattle.sw_mend.specs.declared.change.TargetLink.{TargetLink}
 use Rattle.sw_mend.specs.declared.change.Trial.{Trial}
@@ -42,6 +45,13 @@ of_node d kind node =
     object (member (codes "kind") (string kind)
     (member (codes "node") (string (node_name d node)) no_members))
 
+-- a change of what goes with the flows from one node to another
+abbrev pub of_nodes : Declaration → List ℕ → ℕ → ℕ → Data
+of_nodes d kind from to =
+    object (member (codes "from") (string (node_name d from))
+    (member (codes "kind") (string kind)
+    (member (codes "to") (string (node_name d to)) no_members)))
+
 -- a port less for the addresses of a table entry
 abbrev pub of_port : Declaration → ℕ → ℕ → ℕ → Data
 of_port d switch entry port =
@@ -59,9 +69,11 @@ of_entry d switch entry =
     (member (codes "last") (last_value d switch entry)
     (member (codes "switch") (string (switch_name d switch)) no_members))))
 
--- what is taken away: the reply of a flow, a flow, all replies of a node, a port, a table entry, or the flows from and to a node
+-- what is taken away: the reply of a flow, the replies to the flows from one node to another, a flow, all replies of a node, a port, a table
+-- entry, or the flows from and to a node
 abbrev pub change_value : Declaration → Change → Data
 change_value d (WithoutReply flow) = of_flow d (codes "reply") flow
+change_value d (WithoutReplies from to) = of_nodes d (codes "replies between") from to
 change_value d (WithoutFlow flow) = of_flow d (codes "flow") flow
 change_value d (WithoutAnswers node) = of_node d (codes "replies") node
 change_value d (WithoutPort switch entry port) = of_port d switch entry port
@@ -110,9 +122,21 @@ mends_value mends =
     object (member (codes "kind") (string (codes "mends"))
     (member (codes "mends") (array (items_of mends)) no_members))
 
+-- a limit and slots that free it together
+abbrev pub limiting_mends : Declaration → Option Limiting → List Data
+limiting_mends d None = []
+limiting_mends d (Some limiting) = told_mend (limiting_values d limiting) (limiting_line_words d limiting) ∷ []
+
+-- the limit and the slots, then each change of a part, each pair, and each unit
+abbrev pub cure_values : Declaration → Cures → List Data
+cure_values d cures =
+    limiting_mends d cures.limiting
+    ++ (map (mend_value d) cures.changes.items
+    ++ (map (pair_value d) (told_pairs cures)
+    ++ map (mend_value d) cures.units.items))
+
 -- what is found: the verdict, where a flow is not well routed; else that the network is free, or what frees it
 abbrev pub mending_value : Declaration → Mending → Data
 mending_value d (Misrouted flow place fault) = verdict_value d (verdict.Misrouted flow place fault)
 mending_value d Free = kind_value (codes "free")
-mending_value d (Single told) = mends_value (map (mend_value d) told.items)
-mending_value d (Pairs told) = mends_value (map (pair_value d) told.items)
+mending_value d (Cyclic cures) = mends_value (cure_values d cures)

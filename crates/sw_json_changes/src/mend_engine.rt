@@ -11,7 +11,7 @@ use sw_text::{Ended, read_one};
 
 /// Which single changes make the network of a file free of deadlocks, as an object of JSON, each change with its line of `mend`: 0 where
 /// some change does or the network is free already, and 1 where none does or a flow is not well routed, which is then told as a verdict.
-/// With pairs asked for, where no single change does, which pairs of single changes do: 0 where some pair does, and 1 where none does.
+/// With pairs asked for, where no single change of a part does, which pairs of single changes do too, before the units: 0 where some pair does.
 /// The workers share the work.
 ///
 /// `path` is told as that of the file; it is not opened.

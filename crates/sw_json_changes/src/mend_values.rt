@@ -1,5 +1,5 @@
 //! What frees a network, as values.
-ghost use Rattle.std.specs.Prelude.{◌≡◌, ◌∷◌, [], Bool, IfOk, IsOkAnd, codes, map, slice_get, string_bytes};
+ghost use Rattle.std.specs.Prelude.{◌≡◌, ◌++◌, ◌∷◌, [], Bool, IfOk, IsOkAnd, OnOk, codes, map, slice_get, string_bytes};
 ghost use Rattle.serde_json.specs.Data.{string};
 ghost use Rattle.serde_json.specs.View.{view};
 ghost use Rattle.sw_app_changes.specs.Mendings.{IsMending};
@@ -7,17 +7,19 @@ ghost use Rattle.sw_config.specs.Entries.{routes_of};
 ghost use Rattle.sw_json.specs.Objects.{member_value, object_of};
 ghost use Rattle.sw_json.specs.VerdictValues.{verdict_value};
 ghost use Rattle.sw_search.specs.Verdicts.{IsVerdict};
-ghost use Rattle.sw_json_changes.specs.MendValues.{change_value, first_value, last_value, mend_value, mend_words, mending_value, mends_value, of_entry, of_port, pair_value, pair_words, told_mend, trial_value};
+ghost use Rattle.sw_json_changes.specs.MendValues.{change_value, cure_values, first_value, last_value, limiting_mends, mend_value, mend_words, mending_value, mends_value, of_entry, of_nodes, of_port, pair_value, pair_words, told_mend, trial_value};
 
+use crate::limiting_values::{limiting_line, limiting_values};
 use serde_json::Value;
 use std::alloc::{AllocError, Global};
-use sw_app_changes::{Mending, change_words, trial_words};
+use sw_app_changes::{Cures, Mending, change_words, told_pairs, trial_words};
 use sw_config::Network;
 use sw_flow::{Place, RouteFault};
 use sw_json::{
-    Member, add_value, kind_value, object_of_five, object_of_four, object_of_two, verdict_value,
+    Member, add_value, kind_value, object_of_five, object_of_four, object_of_three, object_of_two,
+    verdict_value,
 };
-use sw_mend::{Change, Pair, Trial};
+use sw_mend::{Change, Limiting, Pair, Trial};
 use sw_output::{flow_name, node_name, switch_name};
 use sw_route::Route;
 use sw_search::Verdict;
@@ -61,6 +63,26 @@ fn named_change<'a>(
         alloc,
         (key, Member::Text(name)),
         ("kind", Member::Text(kind)),
+    )
+}
+
+// A change of what goes with the flows from one node to another.
+fn of_nodes(
+    alloc: Global,
+    network: &Network,
+    kind: &str,
+    from: u16,
+    to: u16,
+) -> Result<Value, AllocError>
+    ensures { IfOk result (λ v. view v ≡ of_nodes network.now kind.now from to) }
+{
+    let from = node_name(network, from);
+    let to = node_name(network, to);
+    object_of_three(
+        alloc,
+        ("from", Member::Text(from)),
+        ("kind", Member::Text(kind)),
+        ("to", Member::Text(to)),
     )
 }
 
@@ -114,6 +136,9 @@ fn change_value(alloc: Global, network: &Network, change: &Change) -> Result<Val
     match change {
         Change::WithoutReply(flow) => {
             named_change(alloc, "reply", "flow", flow_name(network, *flow))
+        }
+        Change::WithoutReplies { from, to } => {
+            of_nodes(alloc, network, "replies between", *from, *to)
         }
         Change::WithoutFlow(flow) => named_change(alloc, "flow", "flow", flow_name(network, *flow)),
         Change::WithoutAnswers(node) => {
@@ -204,25 +229,64 @@ fn pair_value(alloc: Global, network: &Network, pair: &Pair) -> Result<Value, Al
     told_mend(alloc, changes, pair_words(alloc, network, pair))
 }
 
-// An object for each change.
-fn mend_list(alloc: Global, network: &Network, changes: &[Trial]) -> Result<Vec<Value>, AllocError>
-    ensures { IfOk result (λ v. map view v.items ≡ map (mend_value network.now) changes.now) }
+// Adds an object for the limit and the slots that free the network together, if there are such.
+fn add_limiting(
+    alloc: Global,
+    network: &Network,
+    limiting: &Option<Limiting>,
+    values: &mut Vec<Value>,
+) -> Result<(), AllocError>
+    ensures { OnOk result (map view values.new.items ≡ map view values.old.items ++ limiting_mends network.now limiting.now) }
 {
-    let mut values = Vec::new(alloc);
-    for change in changes {
-        add_value(&mut values, mend_value(alloc, network, change))?;
+    match limiting {
+        Some(limiting) => {
+            let changes = limiting_values(alloc, network, limiting)?;
+            let mend = told_mend(alloc, changes, limiting_line(alloc, network, limiting));
+            add_value(values, mend)
+        }
+        None => Ok(()),
     }
-    Ok(values)
 }
 
-// An object for each pair of changes.
-fn pair_list(alloc: Global, network: &Network, pairs: &[Pair]) -> Result<Vec<Value>, AllocError>
-    ensures { IfOk result (λ v. map view v.items ≡ map (pair_value network.now) pairs.now) }
+// Adds an object for each change.
+fn add_mends(
+    alloc: Global,
+    network: &Network,
+    changes: &[Trial],
+    values: &mut Vec<Value>,
+) -> Result<(), AllocError>
+    ensures { OnOk result (map view values.new.items ≡ map view values.old.items ++ map (mend_value network.now) changes.now) }
+{
+    for change in changes {
+        add_value(values, mend_value(alloc, network, change))?;
+    }
+    Ok(())
+}
+
+// Adds an object for each pair of changes.
+fn add_pairs(
+    alloc: Global,
+    network: &Network,
+    pairs: &[Pair],
+    values: &mut Vec<Value>,
+) -> Result<(), AllocError>
+    ensures { OnOk result (map view values.new.items ≡ map view values.old.items ++ map (pair_value network.now) pairs.now) }
+{
+    for pair in pairs {
+        add_value(values, pair_value(alloc, network, pair))?;
+    }
+    Ok(())
+}
+
+// An object for the limit and the slots, then for each change of a part, each pair, and each unit.
+fn cure_values(alloc: Global, network: &Network, cures: &Cures) -> Result<Vec<Value>, AllocError>
+    ensures { IfOk result (λ v. map view v.items ≡ cure_values network.now cures.now) }
 {
     let mut values = Vec::new(alloc);
-    for pair in pairs {
-        add_value(&mut values, pair_value(alloc, network, pair))?;
-    }
+    add_limiting(alloc, network, &cures.limiting, &mut values)?;
+    add_mends(alloc, network, &cures.changes, &mut values)?;
+    add_pairs(alloc, network, told_pairs(cures), &mut values)?;
+    add_mends(alloc, network, &cures.units, &mut values)?;
     Ok(values)
 }
 
@@ -268,7 +332,6 @@ pub(crate) fn mending_value(
             misrouted_value(alloc, network, *flow, *place, *fault)
         }
         Mending::Free => kind_value(alloc, "free"),
-        Mending::Single(changes) => told_mends(alloc, mend_list(alloc, network, changes)),
-        Mending::Pairs(pairs) => told_mends(alloc, pair_list(alloc, network, pairs)),
+        Mending::Cyclic(cures) => told_mends(alloc, cure_values(alloc, network, cures)),
     }
 }

@@ -8,7 +8,7 @@ use Rattle.sw_route.specs.declared.look.Route.{Route}
 use Rattle.sw_config.specs.Entries.{Declaration, FlowEntry, ReplyEntry, SwitchEntry}
 use Rattle.sw_mend.specs.Changes.{by_number, changed, changed_by_all, flow_after, flow_after_all, flow_kept, loses_entry, loses_flow, loses_reply, ports_after, ports_but, route_after, route_after_all}
 use Rattle.sw_mend.specs.declared.change.Change.{Change}
-use Rattle.sw_mend.specs.declared.change.Change.TheVariants.{WithoutReply, WithoutFlow, WithoutAnswers, WithoutPort, WithoutEntry, WithoutFlowsOf}
+use Rattle.sw_mend.specs.declared.change.Change.TheVariants.{WithoutReply, WithoutReplies, WithoutFlow, WithoutAnswers, WithoutPort, WithoutEntry, WithoutFlowsOf}
 
 -- ---- whether an element is gone, and what is kept of it
 
@@ -44,6 +44,7 @@ either_lost false false o = refl
 -- whether a change takes a flow or its reply does not depend on the reply
 same_flow : (number : ℕ) (f : FlowEntry) (reply : Option ReplyEntry) (change : Change) → loses_flow change number (record f { reply = reply }) ≡ loses_flow change number f
 same_flow number f reply (WithoutReply flow) = refl
+same_flow number f reply (WithoutReplies from to) = refl
 same_flow number f reply (WithoutFlow gone) = refl
 same_flow number f reply (WithoutAnswers node) = refl
 same_flow number f reply (WithoutPort at group port) = refl
@@ -52,6 +53,7 @@ same_flow number f reply (WithoutFlowsOf node) = refl
 
 same_reply : (number : ℕ) (f : FlowEntry) (reply : Option ReplyEntry) (change : Change) → loses_reply change number (record f { reply = reply }) ≡ loses_reply change number f
 same_reply number f reply (WithoutReply flow) = refl
+same_reply number f reply (WithoutReplies from to) = refl
 same_reply number f reply (WithoutFlow gone) = refl
 same_reply number f reply (WithoutAnswers node) = refl
 same_reply number f reply (WithoutPort at group port) = refl

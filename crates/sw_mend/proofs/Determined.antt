@@ -6,8 +6,8 @@ use Rattle.std.proofs.lemmas.Option.{same_Some}
 use Rattle.sw_config.specs.Entries.{Declaration}
 use Rattle.sw_config.specs.Valid.{IsValid}
 use Rattle.sw_mend.specs.Changes.{pairs_of, removals}
-use Rattle.sw_mend.specs.Laws.{MendsAreDetermined, MendsAreThoseThatFree, MendsKeepValid, PairsAreDetermined, PairsAreThoseThatFree, StandsBefore}
-use Rattle.sw_mend.specs.Mends.{AreThose, Frees, FreesBoth, left_by, single_changes}
+use Rattle.sw_mend.specs.Laws.{MendsAreDetermined, MendsAreThoseThatFree, MendsKeepValid, PairsAreDetermined, PairsAreThoseThatFree, StandsBefore, UnitMendsAreDetermined, UnitMendsAreThoseThatFree, UnitMendsKeepValid}
+use Rattle.sw_mend.specs.Mends.{AreThose, Frees, FreesTogether, left_by, single_changes, unit_changes}
 use Rattle.sw_mend.specs.declared.change.Change.{Change}
 use Rattle.sw_mend.specs.declared.change.Pair.{Pair}
 use Rattle.sw_mend.specs.declared.change.Trial.{Trial}
@@ -83,6 +83,17 @@ mends_keep_valid d told change valid are here = freeing_keeps_valid d change val
 pub mends_are_determined : MendsAreDetermined
 mends_are_determined d told other are also = one_list (Frees d) (single_changes d) told other are also
 
+-- ---- those of units
+
+pub unit_mends_are_those_that_free : UnitMendsAreThoseThatFree
+unit_mends_are_those_that_free d told change are = exactly (Frees d) (unit_changes d) told change are
+
+pub unit_mends_keep_valid : UnitMendsKeepValid
+unit_mends_keep_valid d told change valid are here = freeing_keeps_valid d change valid ((unit_mends_are_those_that_free d told change are).0 here).1
+
+pub unit_mends_are_determined : UnitMendsAreDetermined
+unit_mends_are_determined d told other are also = one_list (Frees d) (unit_changes d) told other are also
+
 -- ---- pairs
 
 seconds : (first : Change) (changes : List Change) (pair : Pair) → Contains (map (pair_with first) changes) pair
@@ -123,10 +134,10 @@ is_pair (c ∷ changes) first second (suc i, suc j, lt, a, b) =
 
 pub pairs_are_those_that_free : PairsAreThoseThatFree
 pairs_are_those_that_free d told pair are =
-    let both = exactly (FreesBoth d) (pairs_of (removals d)) told pair are in (
+    let both = exactly (FreesTogether d) (pairs_of (removals d)) told pair are in (
       λ here. (stands (removals d) pair (both.0 here).0, (both.0 here).1),
       λ (before, frees). both.1 (is_pair (removals d) pair.first pair.second before, frees),
     )
 
 pub pairs_are_determined : PairsAreDetermined
-pairs_are_determined d told other are also = one_list (FreesBoth d) (pairs_of (removals d)) told other are also
+pairs_are_determined d told other are also = one_list (FreesTogether d) (pairs_of (removals d)) told other are also

@@ -1,20 +1,21 @@
 -- Which of the limits and slots that are tried is told.
-use Rattle.std.proofs.Common.{◌≡◌, ◌≢◌, ℕ, zero, suc, ◌+◌, ◌-◌, ◌<◌, ◌≤◌, Bool, true, false, List, [], ◌∷◌, All, Option, Some, None, inl, inr, refl, subst, sym, ap, ◌∙◌, arith}
-use Rattle.std.specs.Prelude.{slice_get, if◌then◌else◌}
-use Rattle.std.proofs.lemmas.Bool.{cases_Bool, cases_lt}
+use Rattle.std.proofs.Common.{◌≡◌, ◌≢◌, ◌↔◌, ℕ, zero, suc, ◌+◌, ◌-◌, ◌<◌, ◌≤◌, Bool, true, false, List, [], ◌∷◌, All, Option, Some, None, inl, inr, refl, subst, sym, ap, ◌∙◌, arith}
+use Rattle.std.specs.Prelude.{IsTrue, slice_get, if◌then◌else◌}
+use Rattle.std.proofs.lemmas.Bool.{cases_Bool, cases_lt, false≢true}
 use Rattle.std.proofs.lemmas.List.Elements.{All-nil}
 use Rattle.std.proofs.lemmas.Option.{same_Some}
 use Rattle.sw_config.specs.Entries.{Declaration}
 use Rattle.sw_search.specs.Laws.{RoutedAndFree}
-use Rattle.sw_mend.specs.Limitings.{FreesLimited, IsFirst, IsLimiting, IsSlots, Limiting, has_unlimited, limit_alone, limit_and_slots, limited_by, limits_from}
+use Rattle.sw_mend.specs.Limitings.{AreSlots, FreesLimited, IsFirst, IsLimiting, IsSlots, Limiting, has_unlimited, limit_alone, limit_and_slots, limited_by, limited_to, limits_from}
 use Rattle.sw_mend.specs.LimitingLaws.{GreaterLimitsDoNotFree, LimitingsAreDetermined, LimitingsFree, SlotsAreForWant}
+use Rattle.sw_mend.specs.declared.limiting.TargetSlots.{TargetSlots}
 use Rattle.sw_mend.proofs.Firsts.{FirstAt, first_at, first_is, one_first}
 
 -- ---- places in the list
 
 limit_at_place : (d : Declaration) (n j : ℕ) → j < n → slice_get (limits_from d n) j ≡ Some (limit_alone (n - j))
 limit_at_place d zero j lt = absurd (omega (arith, lt))
-limit_at_place d (suc n) zero lt = refl
+limit_at_place d (suc n) zero lt = ap (λ k. Some (limit_alone k)) (omega arith)
 limit_at_place d (suc n) (suc j) lt = limit_at_place d n j (omega (arith, lt)) ∙ ap (λ k. Some (limit_alone k)) (omega arith)
 
 last_place : (d : Declaration) (n : ℕ) → slice_get (limits_from d n) n ≡ Some (limit_and_slots d (Some 1))
@@ -42,7 +43,7 @@ of_slots d found is told = subst (λ b. IsFirst (FreesLimited d) (if b then limi
 -- a limit before the place of what is told does not free
 never_before : (d : Declaration) (told : Limiting) (n : ℕ) (at : FirstAt (FreesLimited d) (limits_from d 8) told) → 1 ≤ n → n ≤ 8 → 8 - n < at.0
     → RoutedAndFree (limited_by d (limit_alone n)) → ⊥
-never_before d told n at low high lt frees = at.2.1 (8 - n) (limit_alone n) lt (place_of d n low high) (All-nil IsSlots, frees)
+never_before d told n at low high lt frees = at.2 (8 - n) (limit_alone n) lt (place_of d n low high) (All-nil IsSlots, frees)
 
 -- what is told at a place of a limit alone
 told_alone : (d : Declaration) (told : Limiting) (i : ℕ) → slice_get (limits_from d 8) i ≡ Some told → i < 8 → told ≡ limit_alone (8 - i)
@@ -76,6 +77,44 @@ slots_at_last d told n at some low high frees = elim (cases_lt at.0 8) [
   | inl alone ↦ some (ap (λ (l : Limiting). l.slots) (told_alone d told at.0 at.1 alone))
   | inr last ↦ never_before d told n at low high (omega (arith, (told_last d told at.0 at.1 (omega (arith, last))).0, low)) frees
 ]
+
+as_limits : (d : Declaration) (found : Option Limiting) → has_unlimited d ≡ true → IsFirst (FreesLimited d) (limits_from d 8) found → IsLimiting d found
+as_limits d found is first = subst (λ b. IsFirst (FreesLimited d) (if b then limits_from d 8 else limit_and_slots d None ∷ []) found) (sym is) first
+
+-- the same by what was tested
+pub of_unlimited : (d : Declaration) (found : Option Limiting) (b : Bool) → b ≡ has_unlimited d → b ≡ true → IsFirst (FreesLimited d) (limits_from d 8) found
+    → IsLimiting d found
+of_unlimited d found b is tested first = as_limits d found (sym is ∙ tested) first
+
+-- ---- one limit after the other
+
+-- a limit that frees is told, if none before did
+pub this_limit : (d : Declaration) (m : ℕ) (freed : Bool) → 1 ≤ m → (IsTrue freed ↔ RoutedAndFree (limited_by d (limit_alone m))) → freed ≡ true
+    → IsFirst (FreesLimited d) (limits_from d m) (Some (limit_alone m))
+this_limit d zero freed low iff is = absurd (omega (arith, low))
+this_limit d (suc k) freed low iff is = inl ((All-nil IsSlots, iff.0 is), refl)
+
+-- after one that does not, what is told is the first of those that are left
+pub next_limit : (d : Declaration) (m k : ℕ) (freed : Bool) → m ≡ k + 1 → (IsTrue freed ↔ RoutedAndFree (limited_by d (limit_alone m))) → freed ≡ false
+    → (found : Option Limiting) → IsFirst (FreesLimited d) (limits_from d k) found → IsFirst (FreesLimited d) (limits_from d m) found
+next_limit d zero k freed next iff is found first = absurd (omega (arith, next))
+next_limit d (suc j) k freed next iff is found first =
+    let same : k ≡ j = omega (arith, next) in
+    inr ((λ frees. false≢true (sym is ∙ iff.1 frees.1)), subst (λ n. IsFirst (FreesLimited d) (limits_from d n) found) same first)
+
+-- ---- a limit with slots
+
+module _ (d : Declaration) (most : Option ℕ) (slots : List TargetSlots) (are : AreSlots (limited_to d most) (Some slots)) where
+  same_limiting : record { most = most; slots = slots } ≡ limit_and_slots d most
+  same_limiting = λ t. record { most = most; slots = are.0 t }
+
+  pub told_with_slots : (freed : Bool) → (IsTrue freed ↔ RoutedAndFree (limited_by d (record { most = most; slots = slots }))) → freed ≡ true
+      → FreesLimited d (limit_and_slots d most) × (Some (record { most = most; slots = slots }) ≡ Some (limit_and_slots d most))
+  told_with_slots freed iff is = (subst (FreesLimited d) same_limiting (are.1, iff.0 is), ap Some same_limiting)
+
+  pub not_with_slots : (freed : Bool) → (IsTrue freed ↔ RoutedAndFree (limited_by d (record { most = most; slots = slots }))) → freed ≡ false
+      → FreesLimited d (limit_and_slots d most) → ⊥
+  not_with_slots freed iff is frees = false≢true (sym is ∙ iff.1 (subst (λ (l : Limiting). RoutedAndFree (limited_by d l)) (sym same_limiting) frees.1))
 
 -- ---- the laws
 

@@ -26,7 +26,7 @@ module _ {A : Type 0} (Is : A → Type 0) where
   ]
 
   -- at some place of the list, and none before it is such
-  pub FirstAt : List A → A → Type 0
+  abbrev pub FirstAt : List A → A → Type 0
   FirstAt xs x = (i : ℕ) × (slice_get xs i ≡ Some x) × ((j : ℕ) (y : A) → j < i → slice_get xs j ≡ Some y → Is y → ⊥)
 
   not_before : (y : A) (ys : List A) (i : ℕ) → (Is y → ⊥) → ((j : ℕ) (z : A) → j < i → slice_get ys j ≡ Some z → Is z → ⊥)

@@ -14,6 +14,7 @@ mod MovedFlows
 mod OwnLinks
 mod Rewired
 mod OfKinds
+mod OneNumber
 pub mod Tested
 pub mod MoreSlots
 pub mod LimitedFlows

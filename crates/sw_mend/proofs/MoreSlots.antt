@@ -1,21 +1,23 @@
 -- Nodes whose targets may owe more replies, and what they keep.
-use Rattle.std.proofs.Common.{◌≡◌, ◌≢◌, ℕ, zero, suc, ◌+◌, ◌<◌, ◌≤◌, Bool, true, false, List, [], ◌∷◌, ◌++◌, All, AllPairs, IfSome, IsSome, length, map, take, Some, None, Option, option_map, inl, inr, refl, subst, sym, ap, ◌∙◌, arith}
+use Rattle.std.proofs.Common.{◌≡◌, ◌≢◌, ℕ, zero, suc, ◌+◌, ◌<◌, ◌≤◌, Bool, true, false, List, [], ◌∷◌, ◌++◌, All, AllPairs, IfSome, IsSome, get_or, length, map, take, Some, None, Option, option_map, inl, inr, refl, subst, sym, ap, ◌∙◌, arith}
 use Rattle.std.specs.Prelude.{◌==◌, is_some, slice_get, option_and_then, if◌then◌else◌}
 use Rattle.std.specs.List.{list_any}
+use Rattle.std.specs.Option.{option_map_or}
 use Rattle.std.specs.Str.{bytes_eq}
 use Rattle.std.proofs.lemmas.Bool.{cases_Bool}
-use Rattle.std.proofs.lemmas.List.{length-take-le}
-use Rattle.std.proofs.lemmas.List.Elements.{All-head, All-tail}
+use Rattle.std.proofs.lemmas.List.{length-take-le, take_all, take_more}
+use Rattle.std.proofs.lemmas.List.Elements.{All-cons, All-head, All-nil, All-tail}
 use Rattle.std.proofs.lemmas.Option.{same_Some, slice_get_cases}
 use Rattle.sw_rmap.specs.Config.{IsTargetConfig}
 use Rattle.sw_rmap.specs.declared.config.TargetConfig.{TargetConfig}
 use Rattle.sw_route.specs.Wiring.{Wiring}
 use Rattle.sw_config.specs.Entries.{NodeEntry, SwitchEntry, Declaration, empty, link_ends, part_names, target_of, wiring_of}
-use Rattle.sw_config.specs.Limits.{outstanding_of}
+use Rattle.sw_config.specs.Limits.{limit_at, may_make_wait, outstanding_of}
 use Rattle.sw_config.specs.Valid.{IsTarget}
-use Rattle.sw_mend.specs.Changes.{by_number}
-use Rattle.sw_mend.specs.Limitings.{IsSlots, node_with, slots_after, target_with, with_slots}
+use Rattle.sw_mend.specs.Changes.{by_number, switch_after_all}
+use Rattle.sw_mend.specs.Limitings.{IsSlots, node_with, slots_after, slots_at, slots_wanted, target_with, with_slots}
 use Rattle.sw_mend.specs.declared.limiting.TargetSlots.{TargetSlots}
+use Rattle.sw_mend.proofs.AfterAll.{none_made}
 use Rattle.sw_mend.proofs.Numbered.{one_more}
 use Rattle.sw_mend.proofs.OneMore.{fresh_node}
 
@@ -26,12 +28,23 @@ pub one_named_more : (slots : List TargetSlots) (node before : ℕ) (more : Targ
 one_named_more [] node before more = refl
 one_named_more (first ∷ slots) node before more = one_named_more slots node (if node == first.node then first.slots else before) more
 
+-- one more of them
+pub slots_more : (slots : List TargetSlots) (i node before count made : ℕ) (d : TargetSlots) → i < length slots → count ≡ slots_after (take i slots) node before
+    → made ≡ (if node == (get_or slots i d).node then (get_or slots i d).slots else count) → made ≡ slots_after (take (i + 1) slots) node before
+slots_more slots i node before count made d lt so_far is =
+    let more : TargetSlots = get_or slots i d in
+    is ∙ ap (λ c. if node == more.node then more.slots else c) so_far ∙ sym (one_named_more (take i slots) node before more)
+    ∙ ap (λ l. slots_after l node before) (sym (take_more slots i d lt))
+
+pub all_slots : (slots : List TargetSlots) (i node before count : ℕ) → length slots ≤ i → count ≡ slots_after (take i slots) node before → count ≡ slots_after slots node before
+all_slots slots i node before count past so_far = so_far ∙ ap (λ l. slots_after l node before) (take_all i slots past)
+
 if_slots : (b : Bool) (named before : ℕ) → 1 ≤ named → named ≤ 64 → 1 ≤ before → before ≤ 64 → (1 ≤ (if b then named else before)) × ((if b then named else before) ≤ 64)
-if_slots true named before low high low_before high_before = low , high
-if_slots false named before low high low_before high_before = low_before , high_before
+if_slots true named before low high low_before high_before = (low, high)
+if_slots false named before low high low_before high_before = (low_before, high_before)
 
 pub slots_in_range : (slots : List TargetSlots) (node before : ℕ) → All IsSlots slots → 1 ≤ before → before ≤ 64 → (1 ≤ slots_after slots node before) × (slots_after slots node before ≤ 64)
-slots_in_range [] node before all low high = low , high
+slots_in_range [] node before all low high = (low, high)
 slots_in_range (first ∷ slots) node before all low high =
     let head : IsSlots first = All-head IsSlots first slots all in
     let next = if_slots (node == first.node) first.slots before head.0 head.1 low high in
@@ -50,6 +63,49 @@ still_valid slots node (Some t) all valid =
       low_slots = range.0;
       high_slots = range.1;
     }
+
+-- ---- slots that are wanted
+
+-- so many slots for that node
+abbrev pub named_slots : ℕ → ℕ → List TargetSlots
+named_slots k w = record { node = k; slots = w } ∷ []
+
+abbrev by_test : Bool → List TargetSlots → List TargetSlots → List TargetSlots
+by_test b named others = if b then named else others
+
+wanted_by : (d : Declaration) (k : ℕ) (limit : Option ℕ) (waits : Bool)
+    → option_map_or (λ l. by_test waits (named_slots k (slots_wanted d k l)) []) limit []
+    ≡ option_map_or (named_slots k) (option_and_then (λ l. if waits then Some (slots_wanted d k l) else None) limit) []
+wanted_by d k None waits = refl
+wanted_by d k (Some l) true = refl
+wanted_by d k (Some l) false = refl
+
+-- the slots that are named for a node, by those that are wanted there
+pub wanted : (d : Declaration) (k : ℕ) (e : NodeEntry) (o : Option ℕ)
+    → o ≡ option_and_then (λ limit. if may_make_wait d k then Some (slots_wanted d k limit) else None) (limit_at d k)
+    → option_map_or (named_slots k) o [] ≡ slots_at d k e
+wanted d k e o is = ap (λ (p : Option ℕ). option_map_or (named_slots k) p []) is ∙ sym (wanted_by d k (limit_at d k) (may_make_wait d k))
+
+all_left : (xs ys : List TargetSlots) → All IsSlots (xs ++ ys) → All IsSlots xs
+all_left [] ys all = All-nil IsSlots
+all_left (x ∷ xs) ys all = All-cons IsSlots x xs (All-head IsSlots x (xs ++ ys) all) (all_left xs ys (All-tail IsSlots x (xs ++ ys) all))
+
+all_right : (xs ys : List TargetSlots) → All IsSlots (xs ++ ys) → All IsSlots ys
+all_right [] ys all = all
+all_right (x ∷ xs) ys all = all_right xs ys (All-tail IsSlots x (xs ++ ys) all)
+
+-- too many at one node
+pub too_many : (make : ℕ → NodeEntry → List TargetSlots) (n m i w : ℕ) (nodes : List NodeEntry) → i < length nodes → n + i ≡ m
+    → ((e : NodeEntry) → record { node = m; slots = w } ∷ [] ≡ make m e) → (1 ≤ w → w ≤ 64 → ⊥) → All IsSlots (by_number make n nodes) → ⊥
+too_many make n m i w [] lt at is many all = absurd (omega (arith, lt))
+too_many make n m zero w (e ∷ nodes) lt at is many all =
+    let first : n ≡ m = omega arith in
+    let front : All IsSlots (make n e) = all_left (make n e) (by_number make (n + 1) nodes) all in
+    let there : All IsSlots (record { node = m; slots = w } ∷ []) = subst (All IsSlots) (ap (λ k. make k e) first ∙ sym (is e)) front in
+    let is_slots = All-head IsSlots (record { node = m; slots = w }) [] there in
+    many is_slots.0 is_slots.1
+too_many make n m (suc i) w (e ∷ nodes) lt at is many all =
+    too_many make (n + 1) m i w nodes (omega (arith, lt)) (omega (arith, at)) is many (all_right (make n e) (by_number make (n + 1) nodes) all)
 
 -- ---- nodes
 
@@ -86,8 +142,22 @@ pub same_part_names : (slots : List TargetSlots) (nodes : List NodeEntry) (switc
     → map (λ (e : NodeEntry). e.name) (by_number (node_with slots) 0 nodes) ++ map (λ (s : SwitchEntry). s.name) switches ≡ map (λ (e : NodeEntry). e.name) nodes ++ map (λ (s : SwitchEntry). s.name) switches
 same_part_names slots nodes switches = ap (λ l. l ++ map (λ (s : SwitchEntry). s.name) switches) (same_names slots 0 nodes)
 
+-- names are apart as before
+pub named_apart : (slots : List TargetSlots) (d now : Declaration) → now ≡ record empty { nodes = (with_slots d slots).nodes } → AllPairs (λ x y. x ≢ y) (part_names d)
+    → AllPairs (λ x y. x ≢ y) (part_names (record d { nodes = now.nodes }))
+named_apart slots d now is apart =
+    subst (AllPairs (λ x y. x ≢ y)) (sym (ap (λ (e : Declaration). part_names (record d { nodes = e.nodes })) is ∙ same_part_names slots d.nodes d.switches)) apart
+
 pub same_wiring : (slots : List TargetSlots) (d : Declaration) → wiring_of (with_slots d slots) ≡ wiring_of d
 same_wiring slots d = ap (λ n. record { nodes = n; switches = length d.switches; ends = link_ends d.links }) (as_many slots 0 d.nodes)
+
+-- nodes, switches and links
+pub parts_built : (slots : List TargetSlots) (d with_nodes with_switches after : Declaration) → with_nodes ≡ record empty { nodes = (with_slots d slots).nodes }
+    → with_switches ≡ record empty { nodes = with_nodes.nodes; switches = by_number (switch_after_all []) 0 d.switches } → after ≡ record with_switches { links = d.links }
+    → after ≡ record (with_slots d slots) { flows = [] }
+parts_built slots d with_nodes with_switches after nodes switches links =
+    links ∙ (λ t. record (switches t) { links = d.links })
+    ∙ (λ t. record empty { nodes = (nodes t).nodes; switches = (none_made d t).switches; links = d.links })
 
 -- ---- one more
 

@@ -1,13 +1,15 @@
 -- Those pairs of changes that free the network, with one more second change, and with one more first.
-use Rattle.std.proofs.Common.{◌≡◌, ◌∙◌, ◌↔◌, ◌+◌, ◌<◌, ◌≤◌, ℕ, Bool, IsTrue, List, [], ◌∷◌, ◌++◌, append-nil, append_assoc, drop, get_or, length, map, refl, subst, sym, take, ap}
-use Rattle.std.specs.Prelude.{if◌then◌else◌}
+use Rattle.std.proofs.Common.{◌≡◌, ◌∙◌, ◌↔◌, ◌+◌, ◌<◌, ◌≤◌, ℕ, Bool, IsTrue, List, [], ◌∷◌, ◌++◌, append-nil, append_assoc, drop, get_or, inl, inr, length, map, refl, subst, sym, take, ap}
+use Rattle.std.specs.Prelude.{if◌then◌else◌, false, not, true}
+use Rattle.std.proofs.lemmas.Bool.{false≢true}
 use Rattle.std.proofs.lemmas.List.{drop_more, take_all, take_more, map-append}
 use Rattle.sw_config.specs.Entries.{Declaration}
-use Rattle.sw_mend.specs.Changes.{pairs_of}
-use Rattle.sw_mend.specs.Mends.{AreThosePairs, FreesBoth}
+use Rattle.sw_search.specs.Laws.{RoutedAndFree}
+use Rattle.sw_mend.specs.Changes.{changed, pairs_of}
+use Rattle.sw_mend.specs.Mends.{AreThose, AreThosePairs, FailsAlone, FreesBoth, FreesTogether}
 use Rattle.sw_mend.specs.declared.change.Change.{Change}
 use Rattle.sw_mend.specs.declared.change.Pair.{Pair}
-use Rattle.sw_mend.proofs.Told.{joined, told_one}
+use Rattle.sw_mend.proofs.Told.{joined, parted, told_one}
 
 abbrev pub pair_with : Change → Change → Pair
 pair_with first second = record { first = first; second = second }
@@ -55,3 +57,46 @@ pub all_told : (d : Declaration) (changes left : List Change) (told : List Pair)
 all_told d changes left told none so_far =
     let gone : AreThosePairs d (pairs_of left) [] = rw none refl in
     subst (AreThosePairs d (pairs_of changes)) (append-nil told) (so_far [] gone)
+
+-- what does not free the network alone, as it is decided
+pub failing_decided : (d : Declaration) (change : Change) (freed : Bool) → (IsTrue freed ↔ RoutedAndFree (changed d change)) → (IsTrue (not freed) ↔ FailsAlone d change)
+failing_decided d change true is = (λ never. absurd cc, λ fails. absurd (fails (is.0 refl)))
+failing_decided d change false is = (λ told frees. absurd (false≢true (is.1 frees)), λ fails. refl)
+
+-- ---- those of which neither change frees the network alone
+
+module _ (d : Declaration) where
+  -- with a first change that does not: of the second changes those that do not
+  with_failing : (first : Change) → FailsAlone d first → (changes rest : List Change) (told : List Pair) → AreThose (FailsAlone d) changes rest
+      → AreThosePairs d (map (pair_with first) rest) told → AreThose (FreesTogether d) (map (pair_with first) changes) told
+  with_failing first fails [] rest told none are = rw none at are
+  with_failing first fails (c ∷ changes) rest told (more, those, inl also) are =
+      let here : AreThosePairs d (pair_with first c ∷ map (pair_with first) more) told = rw also.1 at are in
+      let others : List Pair = here.0 in (
+        others,
+        with_failing first fails changes more others those here.1,
+        elim here.2 [
+          | inl frees ↦ inl ((fails, also.0, frees.0), frees.1)
+          | inr never ↦ inr (λ both. never.0 both.2, never.1)
+        ],
+      )
+  with_failing first fails (c ∷ changes) rest told (more, those, inr never) are =
+      (told, with_failing first fails changes more told those (rw never.1 at are), inr (λ both. never.0 both.1, refl))
+
+  -- with a first change that does there is none
+  none_with : (first : Change) → (FailsAlone d first → ⊥) → (changes : List Change) → AreThose (FreesTogether d) (map (pair_with first) changes) []
+  none_with first never [] = refl
+  none_with first never (c ∷ changes) = ([], none_with first never changes, inr (λ both. never both.0, refl))
+
+  -- of all changes those pairs, which are told of the changes that do not free it alone
+  pub only_together : (changes rest : List Change) (told : List Pair) → AreThose (FailsAlone d) changes rest → AreThosePairs d (pairs_of rest) told
+      → AreThose (FreesTogether d) (pairs_of changes) told
+  only_together [] rest told none are = rw none at are
+  only_together (c ∷ changes) rest told (more, those, inl fails) are =
+      let here : AreThosePairs d (map (pair_with c) more ++ pairs_of more) told = rw fails.1 at are in
+      let both = parted (FreesBoth d) (map (pair_with c) more) (pairs_of more) told here in
+      subst (AreThose (FreesTogether d) (map (pair_with c) changes ++ pairs_of changes)) (sym both.4)
+      (joined (FreesTogether d) (map (pair_with c) changes) (pairs_of changes) both.0 both.1 (with_failing c fails.0 changes more both.0 those both.2)
+      (only_together changes more both.1 those both.3))
+  only_together (c ∷ changes) rest told (more, those, inr never) are =
+      joined (FreesTogether d) (map (pair_with c) changes) (pairs_of changes) [] told (none_with c never.0 changes) (only_together changes more told those (rw never.1 at are))

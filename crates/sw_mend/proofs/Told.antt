@@ -25,6 +25,16 @@ module _ {A : Type 0} (IsFree : A → Type 0) where
   alone x true is = ([], refl, inl (is.0 refl, refl))
   alone x false is = ([], refl, inr (λ frees. absurd (false≢true (is.1 frees)), refl))
 
+  -- those of two lists are the ones and then the others
+  pub parted : (xs ys told : List A) → AreThose IsFree (xs ++ ys) told → (those : List A) × (others : List A) × AreThose IsFree xs those × AreThose IsFree ys others × (told ≡ those ++ others)
+  parted [] ys told are = ([], told, refl, are, refl)
+  parted (x ∷ xs) ys told (rest, are, inl first) =
+      let both = parted xs ys rest are in
+      (x ∷ both.0, both.1, (both.0, both.2, inl (first.0, refl)), both.3, first.1 ∙ ap (λ (l : List A). x ∷ l) both.4)
+  parted (x ∷ xs) ys told (rest, are, inr never) =
+      let both = parted xs ys rest are in
+      (both.0, both.1, (both.0, both.2, inr (never.0, refl)), both.3, never.1 ∙ both.4)
+
   -- one more is told if it frees
   pub told_one : (xs : List A) (x : A) (told after : List A) (b : Bool) → AreThose IsFree xs told → (IsTrue b ↔ IsFree x) → after ≡ told ++ (if b then x ∷ [] else [])
       → AreThose IsFree (xs ++ x ∷ []) after
@@ -90,9 +100,6 @@ pub split_decided : (d : Declaration) (link : TargetLink) (changed : Declaration
 split_decided d link changed freed is valid decided =
     subst (λ (e : Declaration). IsTrue freed ↔ (IsValid e × RoutedAndFree e)) is (λ t. (valid, decided.0 t), λ both. decided.1 both.1)
 
--- those of three lists, one after the other, where nothing was told before
-pub all_added : {A : Type 0} (IsFree : A → Type 0) (xs ys zs first now middle told : List A) → first ≡ [] → AreAdded IsFree xs first now → AreAdded IsFree ys now middle
-    → AreAdded IsFree zs middle told → AreThose IsFree (xs ++ ys ++ zs) told
-all_added {A = A} IsFree xs ys zs first now middle told none one two three =
-    let all : AreAdded IsFree (xs ++ ys ++ zs) first told = both_added IsFree (xs ++ ys) zs first middle told (both_added IsFree xs ys first now middle one two) three in
-    subst (AreThose IsFree (xs ++ ys ++ zs)) (sym (all.2 ∙ ap (λ (l : List A). l ++ all.0) none)) all.1
+-- where nothing was told before
+pub all_added : {A : Type 0} (IsFree : A → Type 0) (xs first told : List A) → first ≡ [] → AreAdded IsFree xs first told → AreThose IsFree xs told
+all_added {A = A} IsFree xs first told none all = subst (AreThose IsFree xs) (sym (all.2 ∙ ap (λ (l : List A). l ++ all.0) none)) all.1

@@ -1,5 +1,5 @@
 -- With the slots that are wanted, a node that has a limit makes no other wait.
-use Rattle.std.proofs.Common.{◌≡◌, ◌≢◌, ◌⊎◌, ℕ, zero, IfSome, IsSome, suc, ◌+◌, ◌<◌, ◌≤◌, ◌==◌, ◌&&◌, ◌||◌, Bool, true, false, not, List, [], ◌∷◌, ◌++◌, Option, Some, None, inl, inr, is_some, length, map, refl, subst, sym, ap, ◌∙◌, arith}
+use Rattle.std.proofs.Common.{◌≡◌, ◌≢◌, ◌⊎◌, ℕ, zero, IfSome, IsSome, suc, ◌+◌, ◌<◌, ◌≤◌, ◌==◌, ◌&&◌, ◌||◌, Bool, true, false, not, List, [], ◌∷◌, ◌++◌, Option, Some, None, inl, inr, is_some, length, map, refl, subst, sym, ap, ◌∙◌, arith, zero-add}
 use Rattle.std.specs.Prelude.{if◌then◌else◌, nat_lt, slice_get}
 use Rattle.std.specs.List.{list_all, range_with_len}
 use Rattle.std.specs.Option.{option_map_or}
@@ -11,7 +11,6 @@ use Rattle.sw_config.specs.Valid.{IsFlow, IsReply, IsTarget, IsValid}
 use Rattle.sw_config.proofs.AnsweringNodes.{answered_flow}
 use Rattle.sw_config.proofs.FlowLaws.{valid_flows}
 use Rattle.sw_config.proofs.Flows.{All-at}
-use Rattle.sw_config.proofs.Limits.{total_is}
 use Rattle.sw_rmap.specs.Targets.{slots_of}
 use Rattle.sw_rmap.specs.declared.config.TargetConfig.{TargetConfig}
 use Rattle.sw_mend.specs.Changes.{by_number}
@@ -54,7 +53,7 @@ after_both (first ∷ slots) others n before = after_both slots others n (if n =
 
 module _ (d : Declaration) where
   -- by what a node has, if it has a limit, and may make others wait
-  named_at : Option ℕ → Bool → ℕ → List TargetSlots
+  abbrev named_at : Option ℕ → Bool → ℕ → List TargetSlots
   named_at limit waits k = option_map_or (λ l. if waits then record { node = k; slots = slots_wanted d k l } ∷ [] else []) limit []
 
   other_by : (limit : Option ℕ) (waits : Bool) (k n before : ℕ) → (n == k) ≡ false → slots_after (named_at limit waits k) n before ≡ before
@@ -126,28 +125,33 @@ none_waits_by answering limit slots l all is takes =
 
 -- ---- a node that has a limit is a target
 
+-- a limit that is there where a test passes
+passes_by : (b : Bool) (o : Option ℕ) (l : ℕ) → (if b then o else None) ≡ Some l → b ≡ true
+passes_by true o l is = refl
+passes_by false o l is = absurd cc
+
 target_by : (nodes : List NodeEntry) (to : ℕ) (reply : Option ReplyEntry) → is_some reply ≡ true → IfSome reply (IsReply nodes to) → IsTarget nodes to
 target_by nodes to None some is = absurd cc
 target_by nodes to (Some r) some is = is.target
 
 some_from : {A : Type 0} (o : Option A) → IsSome o → is_some o ≡ true
-some_from None is = absurd is
+some_from None is = absurd cc
 some_from (Some x) is = refl
 
 pub with_slots_none_waits : WithSlotsNoneWaits
 with_slots_none_waits d n limit valid is =
     let slots = more_slots d in
     let before = slots_of (target_of d.nodes n) in
-    let answering : is_answering d n ≡ true = (total_is d (is_answering d n) (sum_of_limits (map (limit_from d n) (range_with_len 0 (length d.nodes)))) limit is).0 in
+    let answering : is_answering d n ≡ true = passes_by (is_answering d n) (sum_of_limits (map (limit_from d n) (range_with_len 0 (length d.nodes)))) limit is in
     let a = answered_flow d n answering in
     let flow = All-at (IsFlow d.nodes) (all_flows d) a.number a.flow a.numbered (valid_flows d valid).0 in
     let target : IsTarget d.nodes n = subst (IsTarget d.nodes) a.ends_there (target_by d.nodes a.flow.to a.flow.reply a.replied flow.reply) in
     let named : slots_of (target_of (with_slots d slots).nodes n) ≡ slots_after slots n before =
-    ap slots_of (target_after slots 0 d.nodes n) ∙ slots_of_some slots n (target_of d.nodes n) (some_from (target_of d.nodes n) target) in
+    ap slots_of (target_after slots 0 d.nodes n ∙ ap (λ m. target_with slots m (target_of d.nodes n)) (zero-add n)) ∙ slots_of_some slots n (target_of d.nodes n) (some_from (target_of d.nodes n) target) in
     let within : n < length d.nodes = subst (λ (m : ℕ). m < length d.nodes) a.ends_there flow.to in
     elim (slice_get_cases d.nodes n).1 [
       | inl found ↦
-          let own : slots_after slots n before ≡ slots_after (slots_at d n found.0) n before = own_slots d 0 d.nodes n n before found.0 found.2 refl in
+          let own : slots_after slots n before ≡ slots_after (slots_at d n found.0) n before = own_slots d 0 d.nodes n n before found.0 found.2 (sym (zero-add n)) in
           by d slots n limit is (named ∙ own) found.0
           (elim (cases_Bool (may_make_wait d n)) [
             | inl waits ↦

@@ -1,12 +1,12 @@
 -- Single changes of a network, and what each leaves of it, and several together.
-use Rattle.std.specs.Prelude.{ℕ, ◌+◌, ◌==◌, Bool, false, not, ◌||◌, ◌&&◌, is_some, None, List, [], ◌∷◌, ◌++◌, filter, flat_map, map, length, nat_lt, slice_get, if◌then◌else◌}
+use Rattle.std.specs.Prelude.{ℕ, ◌+◌, ◌==◌, Bool, false, not, ◌||◌, ◌&&◌, is_some, None, List, [], ◌∷◌, ◌++◌, count_by, filter, flat_map, map, length, nat_lt, slice_get, take, if◌then◌else◌}
 use Rattle.std.specs.Option.{option_map_or}
 use Rattle.sw_topo.specs.Ports.{port_set, ports_of}
 use Rattle.sw_route.specs.declared.look.Route.{Route}
 use Rattle.sw_config.specs.Entries.{NodeEntry, SwitchEntry, FlowEntry, Declaration}
 use Rattle.sw_mend.specs.declared.change.Change.{Change}
 use Rattle.sw_mend.specs.declared.change.Pair.{Pair}
-use Rattle.sw_mend.specs.declared.change.Change.TheVariants.{WithoutReply, WithoutFlow, WithoutAnswers, WithoutPort, WithoutEntry, WithoutFlowsOf}
+use Rattle.sw_mend.specs.declared.change.Change.TheVariants.{WithoutReply, WithoutReplies, WithoutFlow, WithoutAnswers, WithoutPort, WithoutEntry, WithoutFlowsOf}
 
 -- what is made of each element and its number, one after the other; the first element has that number
 abbrev pub by_number : {A B : Type 0} → (ℕ → A → List B) → ℕ → List A → List B
@@ -28,6 +28,7 @@ loses_flow change number f = false
 -- the flow of that number is no longer answered
 abbrev pub loses_reply : Change → ℕ → FlowEntry → Bool
 loses_reply (WithoutReply flow) number f = number == flow
+loses_reply (WithoutReplies from to) number f = f.from == from && f.to == to
 loses_reply (WithoutAnswers node) number f = f.to == node
 loses_reply change number f = false
 
@@ -100,6 +101,25 @@ changed_by_all d changes =
 abbrev pub reply_away : ℕ → FlowEntry → List Change
 reply_away number f = if is_some f.reply then WithoutReply number ∷ [] else []
 
+-- the flow has a reply, and goes from the one node to the other
+abbrev pub is_answered_between : ℕ → ℕ → FlowEntry → Bool
+is_answered_between from to f = is_some f.reply && f.from == from && f.to == to
+
+-- how many of the flows do
+abbrev pub answered_between : ℕ → ℕ → List FlowEntry → ℕ
+answered_between from to flows = count_by (is_answered_between from to) flows
+
+-- the flow of that number is the first of two or more that have a reply and go from its one node to its other
+abbrev pub is_first_of_several : List FlowEntry → ℕ → FlowEntry → Bool
+is_first_of_several flows number f =
+    is_some f.reply
+    && answered_between f.from f.to (take number flows) == 0
+    && nat_lt 1 (answered_between f.from f.to flows)
+
+-- Of the first of such flows, for them all. Where there is one alone, that is `reply_away`.
+abbrev pub replies_away : List FlowEntry → ℕ → FlowEntry → List Change
+replies_away flows number f = if is_first_of_several flows number f then WithoutReplies f.from f.to ∷ [] else []
+
 abbrev pub flow_away : ℕ → FlowEntry → List Change
 flow_away number f = WithoutFlow number ∷ []
 
@@ -124,10 +144,11 @@ entries_away switch s = by_number (entry_away switch) 0 s.routes
 abbrev pub flows_away : ℕ → NodeEntry → List Change
 flows_away number n = WithoutFlowsOf number ∷ []
 
--- one reply; one flow; the answers of one target; one port of one group; one table entry
+-- one reply; the replies of one node to another; one flow; the answers of one target; one port of one group; one table entry
 abbrev pub parts_away : Declaration → List Change
 parts_away d =
     by_number reply_away 0 d.flows
+    ++ by_number (replies_away d.flows) 0 d.flows
     ++ by_number flow_away 0 d.flows
     ++ by_number answers_away 0 d.nodes
     ++ by_number group_ports_away 0 d.switches

@@ -8,6 +8,11 @@ use sw_topo::Port;
 pub enum Change {
     /// The flow has no reply.
     WithoutReply(u16),
+    /// No flow from the one node to the other has a reply.
+    WithoutReplies {
+        from: u16,
+        to: u16,
+    },
     /// The flow is gone.
     WithoutFlow(u16),
     /// No flow to the node has a reply.

@@ -25,6 +25,7 @@ fn loses_reply(change: &Change, number: u16, flow: &Flow) -> bool
 {
     match change {
         Change::WithoutReply(unanswered) => number == *unanswered,
+        Change::WithoutReplies { from, to } => flow.from() == *from && flow.to() == *to,
         Change::WithoutAnswers(node) => flow.to() == *node,
         _ => false,
     }

@@ -1,7 +1,7 @@
 //! What holds of single changes and of pairs of them. These functions do nothing: each is the proof of what its clause says.
-ghost use Rattle.sw_mend.specs.Laws.{AllKeepValid, ChangesKeepValid, MendsAreDetermined, MendsAreThoseThatFree, MendsKeepValid, NoneChangesNothing, OneAloneIsAChange, PairsAreDetermined, PairsAreThoseThatFree};
+ghost use Rattle.sw_mend.specs.Laws.{AllKeepValid, ChangesKeepValid, MendsAreDetermined, MendsAreThoseThatFree, MendsKeepValid, NoneChangesNothing, OneAloneIsAChange, PairsAreDetermined, PairsAreThoseThatFree, UnitMendsAreDetermined, UnitMendsAreThoseThatFree, UnitMendsKeepValid};
 
-/// A change is told exactly where it is one of the single changes and frees the network.
+/// A change is told exactly where it is one of the single changes of parts and frees the network.
 pub fn mends_are_those_that_free()
     ensures { MendsAreThoseThatFree }
 {}
@@ -9,6 +9,16 @@ pub fn mends_are_those_that_free()
 /// The changes that are told of a network are determined.
 pub fn mends_are_determined()
     ensures { MendsAreDetermined }
+{}
+
+/// A change is told of units exactly where it takes away the flows of one and frees the network.
+pub fn unit_mends_are_those_that_free()
+    ensures { UnitMendsAreThoseThatFree }
+{}
+
+/// The changes that are told of units are determined.
+pub fn unit_mends_are_determined()
+    ensures { UnitMendsAreDetermined }
 {}
 
 /// Whatever is taken away, the network that is left is a valid one.
@@ -19,6 +29,11 @@ pub fn changes_keep_valid()
 /// Each change that is told leaves a valid network.
 pub fn mends_keep_valid()
     ensures { MendsKeepValid }
+{}
+
+/// Each change that is told of units leaves a valid network.
+pub fn unit_mends_keep_valid()
+    ensures { UnitMendsKeepValid }
 {}
 
 /// Several changes that are one change leave what it leaves.
@@ -36,7 +51,8 @@ pub fn all_keep_valid()
     ensures { AllKeepValid }
 {}
 
-/// A pair is told exactly where both are among what can be taken away, the first before the second, and they free the network together.
+/// A pair is told exactly where both are among what can be taken away, the first before the second, neither frees the network alone, and they
+/// free it together.
 pub fn pairs_are_those_that_free()
     ensures { PairsAreThoseThatFree }
 {}

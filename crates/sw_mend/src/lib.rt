@@ -19,7 +19,7 @@ mod tables;
 
 pub use change::{Change, Pair, TargetLink, Trial};
 pub use limiting::{Limiting, TargetSlots, find_limiting};
-pub use mending::mends;
+pub use mending::{mends, unit_mends};
 pub use outstanding::network_with_outstanding;
 pub use pairs::pair_mends;
 pub use rebuilt::{network_with, network_with_all};

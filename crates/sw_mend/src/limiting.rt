@@ -5,7 +5,7 @@ ghost use Rattle.sw_config.specs.Entries.{all_flows, empty};
 ghost use Rattle.sw_config.specs.Limits.{all_limited_at, is_limited, limit_at, may_make_wait};
 ghost use Rattle.sw_config.specs.Valid.{IsOutstanding, IsTarget};
 ghost use Rattle.sw_search.specs.Laws.{RoutedAndFree};
-ghost use Rattle.sw_mend.specs.Limitings.{AreSlots, FreesLimited, IsFirst, IsLimiting, IsSlots, flow_limited, has_unlimited, is_unlimited, limit_and_slots, limited_by, limited_to, slots_wanted, target_with, with_slots};
+ghost use Rattle.sw_mend.specs.Limitings.{AreSlots, FreesLimited, IsFirst, IsLimiting, IsSlots, flow_limited, has_unlimited, is_unlimited, limit_and_slots, limited_by, limited_to, slots_after, slots_wanted, target_with, with_slots};
 
 use crate::parts::{add_links, add_switches};
 use std::alloc::{AllocError, Global};
@@ -109,7 +109,7 @@ fn more_slots(alloc: Global, network: &Network) -> Result<Option<Vec<TargetSlots
         let Some(wanted) = slots_at(network, node) else {
             continue;
         };
-        if wanted > MOST_SLOTS {
+        if wanted == 0 || wanted > MOST_SLOTS {
             return Ok(None);
         }
         let slots_wanted = wanted as u8;
@@ -121,6 +121,28 @@ fn more_slots(alloc: Global, network: &Network) -> Result<Option<Vec<TargetSlots
     Ok(Some(slots))
 }
 
+// The slots of that node, where these are for it, and else as many as before.
+fn slots_by(more: &TargetSlots, node: u16, before: u8) -> u8
+    ensures { result ≡ if node == more.now.node then more.now.slots else before }
+{
+    if node == more.node {
+        more.slots
+    } else {
+        before
+    }
+}
+
+// How many replies the target of that node may owe: so many as are named for it, or as many as before.
+fn slots_after(slots: &[TargetSlots], node: u16, before: u8) -> u8
+    ensures { result ≡ slots_after slots.now node before }
+{
+    let mut count = before;
+    for more in slots {
+        count = slots_by(more, node, count);
+    }
+    count
+}
+
 // What the target of that node answers by, with so many slots where they are named.
 fn target_with(
     slots: &[TargetSlots],
@@ -130,11 +152,7 @@ fn target_with(
     ensures { result ≡ target_with slots.now node target }
 {
     let mut target = target?;
-    for more in slots {
-        if node == more.node {
-            target.slots = more.slots;
-        }
-    }
+    target.slots = slots_after(slots, node, target.slots);
     Some(target)
 }
 
@@ -247,14 +265,7 @@ pub(crate) fn limited_flow(
     let name = String::from_str(alloc, flow.name())?;
     let address = Vec::from_slice(alloc, flow.address())?;
     let reply = limited_replies(alloc, flow, is_limited, most)?;
-    Ok(Flow::new(
-        name,
-        flow.from(),
-        flow.to(),
-        address,
-        flow.left(),
-        reply,
-    ))
+    Ok(Flow::new(name, flow.from(), flow.to(), address, flow.left(), reply))
 }
 
 // Adds each flow so.
@@ -270,6 +281,8 @@ fn add_limited_flows(
     requires targets { (n : ℕ) → IsTarget network.now.nodes n → IsTarget built.old.nodes n }
     ensures { OnOk result (built.new ≡ record built.old { flows = map (flow_limited network.now.nodes most) network.now.flows }) }
 {
+    // Names the network, which is valid by its type.
+    let _topology = network.topology();
     for number in 0..network.declared_flows() {
         let is_limited = network.is_limited(number);
         let flow = limited_flow(alloc, network.flow(number), is_limited, most)?;
@@ -370,7 +383,8 @@ pub fn find_limiting<W: VerdictWorkers>(
     if !has_unlimited(network) {
         return limit_and_slots(workers, alloc, network, None);
     }
-    for most in (1..=MOST).rev() {
+    for less in 0..MOST {
+        let most = MOST - less;
         if frees(workers, alloc, network, Some(most), &[])? {
             let slots = Vec::new(alloc);
             return Ok(Some(Limiting {

@@ -1,32 +1,34 @@
 //! What is tried of what can be taken away.
-ghost use Rattle.std.specs.Prelude.{◌≡◌, ◌<◌, ◌++◌, ◌∷◌, [], IfOk, OnOk, flat_map, if◌then◌else◌, length, map, nat_lt};
+ghost use Rattle.std.specs.Prelude.{◌≡◌, ◌<◌, ◌≤◌, ◌++◌, ◌∷◌, [], IfOk, OnOk, flat_map, if◌then◌else◌, length, map, nat_lt, take};
 ghost use Rattle.sw_topo.specs.Ports.{ports_of};
 ghost use Rattle.sw_mend.specs.declared.change.Change.TheVariants.{WithoutPort};
-ghost use Rattle.sw_mend.specs.Changes.{by_number, entry_away, ports_away};
+ghost use Rattle.sw_mend.specs.Changes.{answered_between, by_number, entry_away, is_answered_between, is_first_of_several, ports_away};
 ghost use Rattle.sw_mend.specs.Kinds.{away_at, count_of, kind_away};
 
 use crate::change::Change;
 use std::alloc::{AllocError, Global};
 use std::marker::Model;
-use sw_config::Network;
+use sw_config::{Flow, Network};
 use sw_route::Route;
 use sw_topo::PortSet;
 
 /// What is taken away before nodes are split, in the order in which it is tried.
 pub(crate) const PARTS: &[Kind] = &[
     Kind::Reply,
+    Kind::Replies,
     Kind::Flow,
     Kind::Answers,
     Kind::Port,
     Kind::Entry,
 ];
 
-/// What is taken away after that.
+/// What is taken away of units.
 pub(crate) const UNITS: &[Kind] = &[Kind::Unit];
 
 /// All that can be taken away, in its order.
 pub(crate) const PARTS_AND_UNITS: &[Kind] = &[
     Kind::Reply,
+    Kind::Replies,
     Kind::Flow,
     Kind::Answers,
     Kind::Port,
@@ -39,6 +41,8 @@ pub(crate) const PARTS_AND_UNITS: &[Kind] = &[
 pub(crate) enum Kind {
     /// The reply of a flow.
     Reply,
+    /// The replies of all flows from a node to another, at the first of them.
+    Replies,
     /// A flow.
     Flow,
     /// The answers of a target.
@@ -113,6 +117,39 @@ fn add_entries_of(
     Ok(())
 }
 
+// Has the flow a reply, and does it go from the one node to the other?
+fn is_answered_between(flow: &Flow, from: u16, to: u16) -> bool
+    ensures { result ≡ is_answered_between from to flow.now }
+{
+    flow.reply().is_some() && flow.from() == from && flow.to() == to
+}
+
+// How many of the declared flows below that number do?
+fn answered_between(network: &Network, from: u16, to: u16, end: u16) -> u16
+    requires { end ≤ length network.now.flows }
+    ensures { result ≡ answered_between from to (take end network.now.flows) }
+{
+    let mut count = 0;
+    for number in 0..end {
+        if !is_answered_between(network.flow(number), from, to) {
+            continue;
+        }
+        count += 1;
+    }
+    count
+}
+
+// Is the flow of that number the first of two or more that have a reply and go from its one node to its other?
+fn is_first_of_several(network: &Network, number: u16, flow: &Flow) -> bool
+    requires { number < length network.now.flows }
+    ensures { result ≡ is_first_of_several network.now.flows number flow.now }
+{
+    let (from, to) = (flow.from(), flow.to());
+    let before = answered_between(network, from, to, number);
+    let all = answered_between(network, from, to, network.declared_flows());
+    flow.reply().is_some() && before == 0 && all > 1
+}
+
 // What is taken away of the flow, the node or the switch of that number.
 fn add_at(
     network: &Network,
@@ -127,6 +164,12 @@ fn add_at(
         Kind::Reply => {
             let is_answered = network.flow(number).reply().is_some();
             add_if(is_answered, Change::WithoutReply(number), changes)
+        }
+        Kind::Replies => {
+            let flow = network.flow(number);
+            let is_first = is_first_of_several(network, number, flow);
+            let (from, to) = (flow.from(), flow.to());
+            add_if(is_first, Change::WithoutReplies { from, to }, changes)
         }
         Kind::Flow => add(Change::WithoutFlow(number), changes),
         Kind::Answers => {
@@ -144,7 +187,7 @@ fn count_of(network: &Network, kind: Kind) -> u16
     ensures { result ≡ count_of network.now kind }
 {
     match kind {
-        Kind::Reply | Kind::Flow => network.declared_flows(),
+        Kind::Reply | Kind::Replies | Kind::Flow => network.declared_flows(),
         Kind::Answers | Kind::Unit => network.nodes(),
         Kind::Port | Kind::Entry => network.switches(),
     }

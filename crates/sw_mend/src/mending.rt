@@ -3,7 +3,7 @@ ghost use Rattle.std.specs.Prelude.{◌≡◌, ◌↔◌, ◌++◌, ◌∷◌, [
 ghost use Rattle.sw_config.specs.Valid.{IsValid};
 ghost use Rattle.sw_search.specs.Laws.{RoutedAndFree};
 ghost use Rattle.sw_mend.specs.Kinds.{kind_away};
-ghost use Rattle.sw_mend.specs.Mends.{AreAdded, AreMends, Frees};
+ghost use Rattle.sw_mend.specs.Mends.{AreAdded, AreMends, AreUnitMends, Frees};
 ghost use Rattle.sw_mend.specs.Splits.{splits};
 ghost use Rattle.sw_mend.specs.declared.change.Trial.TheVariants.{Without, Split};
 
@@ -17,6 +17,22 @@ use std::marker::Model;
 use sw_config::Network;
 use sw_search::{VerdictWorkers, is_free};
 
+/// Is the changed network free? It is let go.
+pub(crate) fn is_left_free<W: VerdictWorkers>(
+    workers: &W,
+    alloc: Global,
+    changed: Network,
+) -> Result<bool, AllocError>
+    ensures valid { IsValid changed }
+    ensures decided { IfOk result (λ freed. IsTrue freed ↔ RoutedAndFree changed) }
+{
+    // Names the network, which is valid by its type.
+    let _topology = changed.topology();
+    let answer = is_free(workers, alloc, &changed);
+    changed.discard();
+    answer
+}
+
 /// Adds the thing, if the changed network, which is let go, is free.
 pub(crate) fn add_if_free<W: VerdictWorkers, T: Copy>(
     workers: &W,
@@ -28,11 +44,7 @@ pub(crate) fn add_if_free<W: VerdictWorkers, T: Copy>(
     ensures valid { IsValid changed }
     ensures told { OnOk result ((freed : Bool) × (IsTrue freed ↔ RoutedAndFree changed) × (things.new.items ≡ things.old.items ++ (if freed then thing ∷ [] else []))) }
 {
-    // Names the network, which is valid by its type.
-    let _topology = changed.topology();
-    let answer = is_free(workers, alloc, &changed);
-    changed.discard();
-    let freed = answer?;
+    let freed = is_left_free(workers, alloc, changed)?;
     add_if(freed, thing, things)
 }
 
@@ -74,9 +86,9 @@ fn add_splits<W: VerdictWorkers>(
     Ok(())
 }
 
-/// The single changes that free the network, in the order in which they are tried: one reply away; one flow; the answers of one target;
-/// one port of one group of a routing table; one table entry; a node split, so that its target has a link of its own; the flows of one unit.
-/// Each is tried: none that is left out frees the network. The workers share the work of each trial.
+/// The single changes of parts that free the network, in the order in which they are tried: one reply away; the replies to the flows from one node
+/// to another; one flow; the answers of one target; one port of one group of a routing table; one table entry; a node split, so that its target has a
+/// link of its own. Each is tried: none that is left out frees the network. The workers share the work of each trial.
 ///
 /// # Errors
 ///
@@ -91,6 +103,23 @@ pub fn mends<W: VerdictWorkers>(
     let mut mends = Vec::new(alloc);
     add_removals(workers, alloc, network, PARTS, &mut mends)?;
     add_splits(workers, alloc, network, &mut mends)?;
+    Ok(mends)
+}
+
+/// The units without whose flows the network is free, as changes and in their order. Each is tried: none that is left out frees the network. The
+/// workers share the work of each trial.
+///
+/// # Errors
+///
+/// There is no memory for the changes, a changed network or its verdict.
+pub fn unit_mends<W: VerdictWorkers>(
+    workers: &W,
+    alloc: Global,
+    network: &Network,
+) -> Result<Vec<Trial>, AllocError>
+    ensures { IfOk result (λ v. AreUnitMends network.now v.items) }
+{
+    let mut mends = Vec::new(alloc);
     add_removals(workers, alloc, network, UNITS, &mut mends)?;
     Ok(mends)
 }

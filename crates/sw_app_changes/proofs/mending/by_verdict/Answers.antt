@@ -1,10 +1,5 @@
-use Rattle.sw_app_changes.proofs.MendAnswered.{free, misrouted, unasked}
+use Rattle.sw_app_changes.proofs.MendAnswered.{cyclic, free, misrouted}
 use Rattle.sw_app_changes.proofs.mending.by_verdict.Goals as goal
-
-pub returns-then-not-pairs : goal.returns-then-not-pairs
-returns-then-not-pairs g c =
-    let changes = c.in_ok-changes-in-Cyclic in
-    unasked c.args.pairs c.args.network.now c.args.verdict.now c.requires c.in-Cyclic.field-0 changes.changes c.in-Cyclic.is changes.ensures c.if-not-pairs.true
 
 pub returns-in-Misrouted : goal.returns-in-Misrouted
 returns-in-Misrouted g c = misrouted c.args.pairs c.args.network.now c.args.verdict.now c.requires c.in-Misrouted.flow c.in-Misrouted.place c.in-Misrouted.fault c.in-Misrouted.is

@@ -1,10 +1,9 @@
 use Rattle.std.proofs.Common.{◌∙◌, ◌+◌, List, ap, arith, drop, subst, sym}
 use Rattle.std.proofs.lemmas.List.{drop_all, take_rest}
-use Rattle.sw_mend.specs.Changes.{pairs_of}
+use Rattle.sw_mend.specs.Changes.{pairs_of, removals}
 use Rattle.sw_mend.specs.Mends.{AreThosePairs}
 use Rattle.sw_mend.specs.declared.change.Change.{Change}
-use Rattle.sw_mend.proofs.OfKinds.{removals_are}
-use Rattle.sw_mend.proofs.Paired.{all_told, told_with}
+use Rattle.sw_mend.proofs.Paired.{all_told, only_together, told_with}
 use Rattle.sw_mend.proofs.pairs.pair_mends.Goals as goal
 
 pub loop-number-preserved : goal.loop-number-preserved
@@ -19,4 +18,5 @@ returns g c =
     let d = c.args.network.now in
     let changes = c.deref-first-items.result.now in
     let all = all_told d changes _ _ (drop_all c.loop-number.number changes (omega (arith, c.loop-number-test.false))) c.loop-number.invariant in
-    subst (λ (l : List Change). AreThosePairs d (pairs_of l) c.loop-number.pairs.items) (c.deref-first-items.ensures.value ∙ c.in_ok-changes.ensures ∙ removals_are d) all
+    let told = subst (λ (l : List Change). AreThosePairs d (pairs_of l) c.loop-number.pairs.items) c.deref-first-items.ensures.value all in
+    only_together d (removals d) c.in_ok-changes.changes.items c.loop-number.pairs.items c.in_ok-changes.ensures told
