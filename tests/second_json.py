@@ -122,13 +122,16 @@ def mend(line):
 
 
 def margins(lines, channel_of):
-    told = {"answers": [], "kind": "margins", "losses": [], "stalls": []}
+    told = {"answers": [], "kind": "margins", "limits": [], "losses": [], "stalls": []}
     for line in filter(None, lines):
         lost = re.fullmatch(r"lost without the link (\S+): (.*)", line)
+        limit = re.fullmatch(r"free with (?:up to (\d+)|any number of) unanswered commands? of (\S+)", line)
         bend = re.fullmatch(r"(not )?free if (\S+) (stops taking while it wants to send|is answered along its own way)", line)
         if lost:
             flows = [] if lost[2] == "no flow" else lost[2].split()
             told["losses"].append({"channel": channel_of[lost[1]], **ends(lost[1]), "flows": flows})
+        elif limit:
+            told["limits"].append({"flow": limit[2], "outstanding": int(limit[1]) if limit[1] else None})
         elif bend[3].startswith("stops"):
             told["stalls"].append({"free": not bend[1], "node": bend[2]})
         else:

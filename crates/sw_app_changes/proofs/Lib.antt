@@ -7,6 +7,7 @@ pub mod OneMending
 mod OneMendAnswer
 mod MarginAnswered
 mod LossLines
+mod LimitLines
 mod MendLines
 mod OneMarginAnswer
 mod First

@@ -4,9 +4,10 @@ use Rattle.std.specs.List.{flat_map}
 use Rattle.std.proofs.lemmas.List.{length-map, length-take-le, map-append, take_all, take_more}
 use Rattle.sw_config.specs.Entries.{Declaration}
 use Rattle.sw_margin.specs.declared.bend.Bend.{Bend}
+use Rattle.sw_margin.specs.declared.bend.FlowLimit.{FlowLimit}
 use Rattle.sw_margin.specs.declared.bend.Margins.{Margins}
 use Rattle.sw_output.specs.ChannelTexts.{channel_text}
-use Rattle.sw_app_changes.specs.MarginTexts.{answer_line, flows_words, loss_line, loss_lines, margin_text, stall_line}
+use Rattle.sw_app_changes.specs.MarginTexts.{answer_line, flows_words, limit_line, loss_line, loss_lines, margin_text, stall_line}
 use Rattle.sw_app_changes.proofs.ExplainedTexts.{line_then}
 
 abbrev pub items_of : Vec ℕ Global → List ℕ
@@ -40,17 +41,24 @@ pub all_losses : (d : Declaration) (rows : List (Vec ℕ Global)) (i : ℕ) (sta
     → text ≡ start ++ loss_lines d 0 (map items_of rows)
 all_losses d rows i start text ended so_far = so_far ∙ ap (λ l. start ++ loss_lines d 0 (map items_of l)) (take_all i rows ended)
 
--- a text that the lines of three lists were added to, one after another
-pub three_lists : (d : Declaration) (stalls answers : List Bend) (losses : List (Vec ℕ Global)) (told : Margins) (start first second third : List ℕ) → start ≡ []
-    → stalls ≡ told.stalls.items → answers ≡ told.answers.items → losses ≡ told.losses.items → first ≡ start ++ flat_map (stall_line d) stalls → second ≡ first ++ flat_map (answer_line d) answers
-    → third ≡ second ++ loss_lines d 0 (map items_of losses) → third ≡ margin_text d told
-three_lists d stalls answers losses told start first second third none stalls_are answers_are losses_are first_is second_is third_is =
+four_parts : (x y w z : List ℕ) → ((x ++ y) ++ w) ++ z ≡ x ++ (y ++ (w ++ z))
+four_parts x y w z = append_assoc (x ++ y) w z ∙ append_assoc x y (w ++ z)
+
+-- a text that the lines of four lists were added to, one after another
+pub four_lists : (d : Declaration) (stalls answers : List Bend) (limits : List FlowLimit) (losses : List (Vec ℕ Global)) (told : Margins) (start first second third fourth : List ℕ) → start ≡ []
+    → stalls ≡ told.stalls.items → answers ≡ told.answers.items → limits ≡ told.limits.items → losses ≡ told.losses.items
+    → first ≡ start ++ flat_map (stall_line d) stalls → second ≡ first ++ flat_map (answer_line d) answers → third ≡ second ++ flat_map (limit_line d) limits
+    → fourth ≡ third ++ loss_lines d 0 (map items_of losses) → fourth ≡ margin_text d told
+four_lists d stalls answers limits losses told start first second third fourth none stalls_are answers_are limits_are losses_are first_is second_is third_is fourth_is =
     let x = flat_map (stall_line d) stalls in
     let y = flat_map (answer_line d) answers in
+    let w = flat_map (limit_line d) limits in
     let z = loss_lines d 0 (map items_of losses) in
-    third_is ∙ ap (λ l. l ++ z) (second_is ∙ ap (λ l. l ++ y) (first_is ∙ ap (λ l. l ++ x) none)) ∙ append_assoc x y z
-    ∙ ap (λ (s : List Bend). flat_map (stall_line d) s ++ (y ++ z)) stalls_are ∙ ap (λ (a : List Bend). flat_map (stall_line d) told.stalls.items ++ (flat_map (answer_line d) a ++ z)) answers_are
-    ∙ ap (λ (l : List (Vec ℕ Global)). flat_map (stall_line d) told.stalls.items ++ (flat_map (answer_line d) told.answers.items ++ loss_lines d 0 (map items_of l))) losses_are
+    fourth_is ∙ ap (λ l. l ++ z) (third_is ∙ ap (λ l. l ++ w) (second_is ∙ ap (λ l. l ++ y) (first_is ∙ ap (λ l. l ++ x) none))) ∙ four_parts x y w z
+    ∙ ap (λ (s : List Bend). flat_map (stall_line d) s ++ (y ++ (w ++ z))) stalls_are
+    ∙ ap (λ (a : List Bend). flat_map (stall_line d) told.stalls.items ++ (flat_map (answer_line d) a ++ (w ++ z))) answers_are
+    ∙ ap (λ (m : List FlowLimit). flat_map (stall_line d) told.stalls.items ++ (flat_map (answer_line d) told.answers.items ++ (flat_map (limit_line d) m ++ z))) limits_are
+    ∙ ap (λ (l : List (Vec ℕ Global)). flat_map (stall_line d) told.stalls.items ++ (flat_map (answer_line d) told.answers.items ++ (flat_map (limit_line d) told.limits.items ++ loss_lines d 0 (map items_of l)))) losses_are
 
 -- the line of a link with its flows
 loss_told : (d : Declaration) (link : ℕ) (flows name words : List ℕ) → name ≡ channel_text d (2 * link) → words ≡ flows_words d flows

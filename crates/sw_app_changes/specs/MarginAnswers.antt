@@ -5,6 +5,7 @@ use Rattle.sw_text.specs.FaultTexts.{fault_text}
 use Rattle.sw_config.specs.Entries.{Declaration}
 use Rattle.sw_file.specs.Network.{network_text}
 use Rattle.sw_margin.specs.Bends.{AreAnswers, AreStalls}
+use Rattle.sw_margin.specs.FlowLimits.{AreFlowLimits}
 use Rattle.sw_margin.specs.Losses.{AreLosses}
 use Rattle.sw_margin.specs.declared.bend.Margins.{Margins}
 use Rattle.sw_output.specs.Lines.{line}
@@ -18,7 +19,8 @@ use Rattle.sw_app_changes.specs.MarginTexts.{margin_text, not_free_line}
 -- what the free network stands
 abbrev pub IsBent : Declaration → Answers
 IsBent d text status =
-    (told : Margins) × AreStalls d told.stalls.items × AreAnswers d told.answers.items × AreLosses d told.losses.items × Says (margin_text d told) 0 text status
+    (told : Margins) × AreStalls d told.stalls.items × AreAnswers d told.answers.items × AreFlowLimits d told.limits.items × AreLosses d told.losses.items
+    × Says (margin_text d told) 0 text status
 
 -- the flow that is not well routed; else that the network is not free, or what it stands
 abbrev pub IsByVerdict : Declaration → Verdict → Answers

@@ -8,9 +8,9 @@ use std::io::{Read, Write};
 use sw_search::VerdictWorkers;
 use sw_text::{Ended, MAX_TEXT, read_whole, tell_answer, tell_unread};
 
-/// How far the premises of the free network of a file bend: a line for each node that answers nothing, for each flow without a reply
-/// and for each link. Of a network that is not free, that it is not, or the first flow that is not well routed. Its status is 0.
-/// The workers share the work.
+/// How far the premises of the free network of a file bend: a line for each node where nothing that comes may have to wait for a reply, for
+/// each flow without a reply, for each flow with a limit of its own on unanswered commands, and for each link. Of a network that is not
+/// free, that it is not, or the first flow that is not well routed. Its status is 0. The workers share the work.
 pub fn margin<T: VerdictWorkers, R: Read, W: Write>(
     workers: &T,
     alloc: Global,

@@ -1,7 +1,10 @@
 //! Laws of the definitions. Such a function does nothing: it is the proof of its clause.
 ghost use Rattle.sw_app_changes.specs.MarginLaws.{MarginHasOneAnswer};
 
-use sw_margin::laws::{answers_are_determined, losses_are_determined, stalls_are_determined};
+use sw_margin::laws::{
+    answers_are_determined, flow_limits_are_determined, losses_are_determined,
+    stalls_are_determined,
+};
 use sw_search::laws::verdicts_are_determined;
 
 /// `margin` has one answer for each file: its text and its status.
@@ -10,6 +13,7 @@ pub fn margin_has_one_answer()
 {
     stalls_are_determined();
     answers_are_determined();
+    flow_limits_are_determined();
     losses_are_determined();
     verdicts_are_determined();
 }

@@ -1,13 +1,14 @@
 //! The lines of `margin`.
 ghost use Rattle.std.specs.Prelude.{◌≡◌, ◌<◌, ◌*◌, ◌++◌, IfOk, OnOk, codes, length, string_bytes};
 ghost use Rattle.sw_config.specs.Entries.{wiring_of};
-ghost use Rattle.sw_app_changes.specs.MarginTexts.{flows_words, loss_line, margin_text, stays_words};
+ghost use Rattle.sw_app_changes.specs.MarginTexts.{flows_words, limit_line, loss_line, margin_text, stays_words};
 
 use crate::step_texts::add_names;
+use crate::words::ending;
 use std::alloc::{AllocError, Global};
 use std::fmt::Write;
 use sw_config::Network;
-use sw_margin::Margins;
+use sw_margin::{FlowLimit, Margins};
 use sw_output::{channel_text, flow_name, node_name};
 use sw_topo::Chan;
 
@@ -16,6 +17,26 @@ fn stays_words(stays_free: bool) -> &'static str
     ensures { result.now ≡ stays_words stays_free }
 {
     if stays_free { "free if" } else { "not free if" }
+}
+
+// Adds the line of how many commands of a flow may be unanswered.
+fn add_limit_line(text: &mut String, network: &Network, limit: &FlowLimit) -> Result<(), AllocError>
+    ensures { OnOk result (string_bytes text.new ≡ string_bytes text.old ++ limit_line network.now limit.now) }
+{
+    let name = flow_name(network, limit.flow);
+    match limit.most {
+        Some(most) => {
+            let ending = ending(most as usize);
+            write!(
+                text,
+                "free with up to {most} unanswered command{ending} of {name}\n"
+            )
+        }
+        None => write!(
+            text,
+            "free with any number of unanswered commands of {name}\n"
+        ),
+    }
 }
 
 // Adds the names of flows, or that there is none, and ends the line.
@@ -47,7 +68,8 @@ fn add_loss_line(
     add_flows(text, network, flows)
 }
 
-/// The lines of a free network: one for each node at which no answered flow ends, for each flow without a reply, and for each link.
+/// The lines of a free network: one for each node where nothing that comes may have to wait for a reply, for each flow without a reply, for
+/// each flow with a limit of its own, and for each link.
 pub(crate) fn margin_text(
     alloc: Global,
     network: &Network,
@@ -66,6 +88,9 @@ pub(crate) fn margin_text(
         let words = stays_words(answer.stays_free);
         let name = flow_name(network, answer.number);
         write!(text, "{words} {name} is answered along its own way\n")?;
+    }
+    for limit in &told.limits {
+        add_limit_line(&mut text, network, limit)?;
     }
     // There are at most 2,048.
     let _channels = network.channels();

@@ -10,8 +10,9 @@ use Rattle.sw_text.specs.Ends.{IfLimited}
 use Rattle.sw_text.specs.FaultTexts.{fault_text}
 use Rattle.sw_config.specs.Entries.{Declaration}
 use Rattle.sw_file.specs.Network.{network_text}
-use Rattle.sw_margin.specs.Laws.{AnswersAreDetermined, LossesAreDetermined, StallsAreDetermined}
+use Rattle.sw_margin.specs.Laws.{AnswersAreDetermined, FlowLimitsAreDetermined, LossesAreDetermined, StallsAreDetermined}
 use Rattle.sw_margin.specs.declared.bend.Bend.{Bend}
+use Rattle.sw_margin.specs.declared.bend.FlowLimit.{FlowLimit}
 use Rattle.sw_output.specs.Lines.{line}
 use Rattle.sw_output.specs.VerdictTexts.{misrouted_words}
 use Rattle.sw_search.specs.Laws.{SaysTheSame, VerdictsAreDetermined}
@@ -24,30 +25,33 @@ use Rattle.sw_json.proofs.OneVerdict.{one_verdict_value}
 use Rattle.sw_json.specs.Answering.{OfNetwork, OfNetworkFile, read_value}
 use Rattle.sw_json_changes.specs.MarginJson.{IsBent, IsByVerdict, IsMarginFound}
 use Rattle.sw_json_changes.specs.MarginLaws.{MarginHasOneAnswer, MarginHasStatusOfText}
-use Rattle.sw_json_changes.specs.MarginValues.{answered_value, loss_values, stall_value}
+use Rattle.sw_json_changes.specs.MarginValues.{answered_value, flow_limit_value, loss_values, stall_value}
 
 -- ---- one answer
 
 abbrev items : Vec ℕ Global → List ℕ
 items flows = flows.items
 
--- the object of three lists
-abbrev of_lists : Declaration → List Bend → List Bend → List (List ℕ) → Data
-of_lists d stalls answers losses =
+-- the object of four lists
+abbrev of_lists : Declaration → List Bend → List Bend → List FlowLimit → List (List ℕ) → Data
+of_lists d stalls answers limits losses =
     object (member (codes "answers") (array (items_of (map (answered_value d) answers)))
     (member (codes "kind") (string (codes "margins"))
+    (member (codes "limits") (array (items_of (map (flow_limit_value d) limits)))
     (member (codes "losses") (array (items_of (loss_values d 0 losses)))
-    (member (codes "stalls") (array (items_of (map (stall_value d) stalls))) no_members))))
+    (member (codes "stalls") (array (items_of (map (stall_value d) stalls))) no_members)))))
 
-module _ (one_stalls : StallsAreDetermined) (one_answers : AnswersAreDetermined) (one_losses : LossesAreDetermined) (one_verdict : VerdictsAreDetermined) where
+module _ (one_stalls : StallsAreDetermined) (one_answers : AnswersAreDetermined) (one_limits : FlowLimitsAreDetermined) (one_losses : LossesAreDetermined) (one_verdict : VerdictsAreDetermined) where
   bent_once : (d : Declaration) → AreOne (IsBent d)
-  bent_once d value other status number (told, stalls, answers, losses, is) (listed, stalled, answered, lost, tells) =
+  bent_once d value other status number (told, stalls, answers, limits, losses, is) (listed, stalled, answered, limited, lost, tells) =
       let same_stalls = one_stalls d told.stalls.items listed.stalls.items stalls stalled in
       let same_answers = one_answers d told.answers.items listed.answers.items answers answered in
+      let same_limits = one_limits d told.limits.items listed.limits.items limits limited in
       let same_losses = one_losses d told.losses.items listed.losses.items losses lost in
-      let same = ap (λ s. of_lists d s told.answers.items (map items told.losses.items)) same_stalls
-      ∙ ap (λ a. of_lists d listed.stalls.items a (map items told.losses.items)) same_answers
-      ∙ ap (λ l. of_lists d listed.stalls.items listed.answers.items l) same_losses in
+      let same = ap (λ s. of_lists d s told.answers.items told.limits.items (map items told.losses.items)) same_stalls
+      ∙ ap (λ a. of_lists d listed.stalls.items a told.limits.items (map items told.losses.items)) same_answers
+      ∙ ap (λ m. of_lists d listed.stalls.items listed.answers.items m (map items told.losses.items)) same_limits
+      ∙ ap (λ l. of_lists d listed.stalls.items listed.answers.items listed.limits.items l) same_losses in
       (is.1 ∙ sym tells.1, λ good. is.0 ∙ (same ∙ sym tells.0))
 
   by_verdict_once : (d : Declaration) (v w : Verdict) (value other : Data) (status number : ℕ) → IsVerdict d v → IsVerdict d w → SaysTheSame v w
@@ -76,7 +80,7 @@ module _ (one_stalls : StallsAreDetermined) (one_answers : AnswersAreDetermined)
 by_verdict : (d : Declaration) (v : Verdict) (value : Data) (status : ℕ) → IsByVerdict d v value status → (said : List ℕ) × text.IsByVerdict d v said status
 by_verdict d (Misrouted i p fault) value status is = (line (misrouted_words d i p fault ∷ []), (refl, is.1))
 by_verdict d (Cyclic cycle) value status is = (not_free_line, (refl, is.1))
-by_verdict d (Free contents) value status (told, stalls, answers, losses, is) = (margin_text d told, (told, stalls, answers, losses, (refl, is.1)))
+by_verdict d (Free contents) value status (told, stalls, answers, limits, losses, is) = (margin_text d told, (told, stalls, answers, limits, losses, (refl, is.1)))
 
 of_network : (d : Declaration) (value : Data) (status : ℕ) → IsMarginFound d value status → (said : List ℕ) × text.IsNetworkAnswer d said status
 of_network d value status (v, h, is) = let told = by_verdict d v value status is in (told.0, (v, h, told.1))

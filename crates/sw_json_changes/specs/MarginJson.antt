@@ -6,6 +6,7 @@ use Rattle.sw_config.specs.Entries.{Declaration}
 use Rattle.sw_json.specs.VerdictValues.{verdict_value}
 use Rattle.sw_json.specs.declared.files.Release.{Release}
 use Rattle.sw_margin.specs.Bends.{AreAnswers, AreStalls}
+use Rattle.sw_margin.specs.FlowLimits.{AreFlowLimits}
 use Rattle.sw_margin.specs.Losses.{AreLosses}
 use Rattle.sw_margin.specs.declared.bend.Margins.{Margins}
 use Rattle.sw_search.specs.Verdicts.{IsVerdict}
@@ -15,7 +16,8 @@ use Rattle.sw_search.specs.declared.verdict.Verdict.TheVariants.{Misrouted, Cycl
 -- what the free network stands
 abbrev pub IsBent : Declaration → Results
 IsBent d value status =
-    (told : Margins) × AreStalls d told.stalls.items × AreAnswers d told.answers.items × AreLosses d told.losses.items × IsCommandOutcome (margins_value d told) 0 value status
+    (told : Margins) × AreStalls d told.stalls.items × AreAnswers d told.answers.items × AreFlowLimits d told.limits.items × AreLosses d told.losses.items
+    × IsCommandOutcome (margins_value d told) 0 value status
 
 -- the verdict, where the network is not free; else what it stands
 abbrev pub IsByVerdict : Declaration → Verdict → Results

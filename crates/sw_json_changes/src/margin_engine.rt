@@ -9,9 +9,10 @@ use sw_json::{Release, answer_to_one, tell_answer, tell_unread};
 use sw_search::VerdictWorkers;
 use sw_text::{Ended, read_one};
 
-/// How far the premises of the free network of a file bend, as an object of JSON: of each node that answers nothing and of each flow
-/// without a reply, whether the network stays free, and for each link the flows that are lost without it. Of a network that is not free,
-/// the verdict. Its status is 0. The workers share the work.
+/// How far the premises of the free network of a file bend, as an object of JSON: of each node where nothing that comes may have to wait for
+/// a reply and of each flow without one, whether the network stays free; of each flow with a limit of its own, how many of its commands may
+/// be unanswered; and for each link the flows that are lost without it. Of a network that is not free, the verdict. Its status is 0. The
+/// workers share the work.
 ///
 /// `path` is told as that of the file; it is not opened.
 pub fn margin<T: VerdictWorkers, R: Read, W: Write>(

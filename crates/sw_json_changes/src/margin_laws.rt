@@ -2,7 +2,10 @@
 ghost use Rattle.sw_json_changes.specs.MarginLaws.{MarginHasOneAnswer, MarginHasStatusOfText, MarginsArePlain};
 
 use sw_app_changes::margin_laws as text_laws;
-use sw_margin::laws::{answers_are_determined, losses_are_determined, stalls_are_determined};
+use sw_margin::laws::{
+    answers_are_determined, flow_limits_are_determined, losses_are_determined,
+    stalls_are_determined,
+};
 use sw_search::laws::verdicts_are_determined;
 
 /// The value of what a free network stands has a text that reads back.
@@ -16,6 +19,7 @@ pub fn margin_has_one_answer()
 {
     stalls_are_determined();
     answers_are_determined();
+    flow_limits_are_determined();
     losses_are_determined();
     verdicts_are_determined();
 }

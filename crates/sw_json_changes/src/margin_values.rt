@@ -2,15 +2,18 @@
 ghost use Rattle.std.specs.Prelude.{◌≡◌, ◌<◌, ◌*◌, IfOk, length, map};
 ghost use Rattle.serde_json.specs.View.{view};
 ghost use Rattle.sw_config.specs.Entries.{wiring_of};
-ghost use Rattle.sw_json_changes.specs.MarginValues.{answered_value, loss_value, loss_values, margins_value, stall_value};
+ghost use Rattle.sw_json.specs.Objects.{member_value};
+ghost use Rattle.sw_json.specs.Simple.{count_or_null};
+ghost use Rattle.sw_json_changes.specs.MarginValues.{answered_value, flow_limit_value, loss_value, loss_values, margins_value, stall_value};
 
 use serde_json::Value;
 use std::alloc::{AllocError, Global};
 use sw_config::Network;
 use sw_json::{
-    Member, add_value, finish_text, flow_name_values, object_of_four, object_of_two, start_text,
+    Member, add_value, finish_text, flow_name_values, object_of_five, object_of_four,
+    object_of_two, start_text,
 };
-use sw_margin::{Bend, Margins};
+use sw_margin::{Bend, FlowLimit, Margins};
 use sw_output::{flow_name, node_name};
 use sw_topo::Chan;
 
@@ -93,6 +96,34 @@ fn answer_list(alloc: Global, network: &Network, answers: &[Bend]) -> Result<Vec
     Ok(values)
 }
 
+// How many commands may be unanswered: null where any number may.
+fn most_value(most: Option<u16>) -> Member<'static>
+    ensures { member_value result ≡ count_or_null most }
+{
+    match most {
+        Some(most) => Member::Number(u64::from(most)),
+        None => Member::Value(Value::Null),
+    }
+}
+
+// An object for each flow with a limit of its own.
+fn limit_list(
+    alloc: Global,
+    network: &Network,
+    limits: &[FlowLimit],
+) -> Result<Vec<Value>, AllocError>
+    ensures { IfOk result (λ v. map view v.items ≡ map (flow_limit_value network.now) limits.now) }
+{
+    let mut values = Vec::new(alloc);
+    for limit in limits {
+        let name = flow_name(network, limit.flow);
+        let most = most_value(limit.most);
+        let value = object_of_two(alloc, ("flow", Member::Text(name)), ("outstanding", most));
+        add_value(&mut values, value)?;
+    }
+    Ok(values)
+}
+
 /// The object that stands for what a free network stands.
 pub(crate) fn margins_value(
     alloc: Global,
@@ -103,12 +134,14 @@ pub(crate) fn margins_value(
     ensures { IfOk result (λ v. view v ≡ margins_value network.now told.now) }
 {
     let answers = answer_list(alloc, network, &told.answers)?;
+    let limits = limit_list(alloc, network, &told.limits)?;
     let losses = loss_list(alloc, network, &told.losses)?;
     let stalls = stall_list(alloc, network, &told.stalls)?;
-    object_of_four(
+    object_of_five(
         alloc,
         ("answers", Member::Value(Value::Array(answers))),
         ("kind", Member::Text("margins")),
+        ("limits", Member::Value(Value::Array(limits))),
         ("losses", Member::Value(Value::Array(losses))),
         ("stalls", Member::Value(Value::Array(stalls))),
     )

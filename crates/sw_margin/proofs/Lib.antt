@@ -4,3 +4,4 @@ pub mod Ways
 pub mod Needing
 pub mod LinkRows
 pub mod Lawful
+pub mod Greatest

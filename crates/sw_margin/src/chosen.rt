@@ -2,6 +2,7 @@
 ghost use Rattle.std.specs.Prelude.{◌≡◌, ◌<◌, false, length, slice_get};
 ghost use Rattle.std.specs.Option.{option_map_or};
 ghost use Rattle.sw_margin.specs.Bends.{is_unanswered};
+ghost use Rattle.sw_margin.specs.FlowLimits.{own_limit};
 
 use sw_config::Network;
 
@@ -11,4 +12,15 @@ pub(crate) fn is_unanswered(network: &Network, number: u16) -> bool
     ensures { result ≡ option_map_or is_unanswered (slice_get network.now.flows number) false }
 {
     network.flow(number).reply().is_none()
+}
+
+/// How many commands of the flow of that number may be unanswered, if it has a limit of its own.
+pub(crate) fn own_limit(network: &Network, number: u16) -> Option<u16>
+    requires { number < length network.now.flows }
+    ensures { result ≡ own_limit network.now number }
+{
+    match network.flow(number).reply() {
+        Some(reply) => reply.outstanding(),
+        None => None,
+    }
 }

@@ -1,11 +1,12 @@
-//! How far the premises of a free network bend: nodes that take nothing while they want to send, flows that are answered, links that
-//! are not there.
+//! How far the premises of a free network bend: nodes that take nothing while they want to send, flows that are answered, limits on
+//! unanswered commands, links that are not there.
 #![tactic(auto)]
 
 mod bend;
 mod chosen;
 mod flows;
 pub mod laws;
+mod limits;
 mod losing;
 mod nodes;
 mod rows;
@@ -13,8 +14,9 @@ mod telling;
 mod trial;
 mod way;
 
-pub use bend::{Bend, Margins};
+pub use bend::{Bend, FlowLimit, Margins};
 pub use flows::answers;
+pub use limits::flow_limits;
 pub use losing::losses;
 pub use nodes::stalls;
 pub use telling::margins;

@@ -21,3 +21,4 @@ pub mod LimitedFlows
 pub mod Firsts
 pub mod FirstLimits
 pub mod WantedSlots
+mod WithOutstanding

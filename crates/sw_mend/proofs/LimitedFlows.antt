@@ -21,7 +21,7 @@ same_reply : (most : Option ℕ) (reply : Option ReplyEntry) → option_map (λ 
 same_reply most None = refl
 same_reply most (Some r) = refl
 
-by_case : (most : Option ℕ) (f : FlowEntry) (b : Bool)
+pub by_case : (most : Option ℕ) (f : FlowEntry) (b : Bool)
     → record f { reply = option_map (λ (r : ReplyEntry). if b then r else record r { outstanding = most }) f.reply }
     ≡ (if b then f else record f { reply = option_map (λ (r : ReplyEntry). record r { outstanding = most }) f.reply })
 by_case most f true = ap (λ o. record f { reply = o }) (same_reply most f.reply)

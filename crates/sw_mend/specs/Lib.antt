@@ -4,4 +4,5 @@ pub mod Splits
 pub mod Mends
 pub mod Limitings
 pub mod LimitingLaws
+pub mod Outstanding
 pub mod Laws

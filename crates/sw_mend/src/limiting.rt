@@ -253,8 +253,8 @@ fn limited_replies(
     }
 }
 
-// The flow, of which at most that many commands may be unanswered at once; one that is limited stays.
-fn limited_flow(
+/// The flow, of which at most that many commands may be unanswered at once; one that is limited stays.
+pub(crate) fn limited_flow(
     alloc: Global,
     flow: &Flow,
     is_limited: bool,

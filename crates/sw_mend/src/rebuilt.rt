@@ -28,8 +28,8 @@ fn add_parts(
     add_links(network, builder)
 }
 
-// The network that the changes leave, without flows.
-fn without_flows(
+/// The network that the changes leave, without flows.
+pub(crate) fn without_flows(
     alloc: Global,
     network: &Network,
     changes: &[Change],

@@ -8,4 +8,4 @@ pub returns-in_ok-found-in-Free : goal.returns-in_ok-found-in-Free
 returns-in_ok-found-in-Free g c =
     let found = c.in_ok-found-in-Free.ensures in
     subst (λ (v : Verdict). IfOk c.margin_text.result (λ s. IsByVerdict c.args.network.now v (string_bytes s) 0)) (sym c.in-Free.is)
-    (bent c.args.network.now c.in_ok-found-in-Free.found c.margin_text.result found.stalls found.answers found.losses c.margin_text.ensures)
+    (bent c.args.network.now c.in_ok-found-in-Free.found c.margin_text.result found.stalls found.answers found.limits found.losses c.margin_text.ensures)

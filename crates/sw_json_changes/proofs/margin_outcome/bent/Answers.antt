@@ -13,4 +13,4 @@ invariant_of-result g c = record {
 
 pub returns : goal.returns
 returns g c =
-    (c.in_ok-found.found, c.in_ok-found.ensures.stalls, c.in_ok-found.ensures.answers, c.in_ok-found.ensures.losses, (c.in_ok-result.ensures, refl))
+    (c.in_ok-found.found, c.in_ok-found.ensures.stalls, c.in_ok-found.ensures.answers, c.in_ok-found.ensures.limits, c.in_ok-found.ensures.losses, (c.in_ok-result.ensures, refl))
