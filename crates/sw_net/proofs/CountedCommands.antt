@@ -1,5 +1,5 @@
 -- What is counted of commands and of replies tells what is unanswered.
-use Rattle.std.proofs.Common.{◌≡◌, ◌≢◌, ◌==◌, ◌&&◌, ◌||◌, ◌<◌, ◌≤◌, ◌+◌, ◌-◌, ◌∙◌, ◌++◌, ◌∷◌, ◌^◌, [], Bool, List, None, Option, Some, ℕ, ap, arith, count_by, eq-eqb, false, get_or, get_or-set_other, get_or-set_same, is_some, le-ltb, length, length-append, length-set, lt-ltb, min, nat_lt, ne_eqb, refl, replicate, set, subst, sym, true, ⊎_elim}
+use Rattle.std.proofs.Common.{◌≡◌, ◌≢◌, ◌==◌, ◌&&◌, ◌<◌, ◌≤◌, ◌+◌, ◌-◌, ◌∙◌, ◌++◌, ◌∷◌, ◌^◌, [], Bool, List, None, Option, Some, ℕ, ap, arith, count_by, eq-eqb, false, get_or, get_or-set_other, get_or-set_same, is_some, le-ltb, length, length-append, length-set, lt-ltb, min, nat_lt, ne_eqb, refl, replicate, set, subst, sym, true, ⊎_elim}
 use Rattle.std.specs.Prelude.{◌↔◌, if◌then◌else◌, slice_get}
 use Rattle.std.specs.Option.{option_map, option_map_or}
 use Rattle.std.proofs.Math.Nat.{min-eq_left, min-eq_right}
@@ -7,7 +7,7 @@ use Rattle.std.proofs.lemmas.Bool.{and_from, cases_eq, cases_lt, ltb-true}
 use Rattle.std.proofs.lemmas.List.{get_or-replicate, get_or_past, length-replicate}
 use Rattle.sw_char.specs.declared.nchar.End.{End}
 use Rattle.sw_config.proofs.Limits.{limit_at_least, limit_within, limited_flow}
-use Rattle.sw_config.specs.Entries.{Declaration, FlowEntry, ReplyEntry, all_flows, is_answered_at, is_answering, reply_flows}
+use Rattle.sw_config.specs.Entries.{Declaration, FlowEntry, ReplyEntry, all_flows, is_answered_at, reply_flows}
 use Rattle.sw_config.specs.Limits.{is_limited, limit_at}
 use Rattle.sw_config.specs.Valid.{IsValid}
 use Rattle.sw_machine.proofs.Balance.{count_append}
