@@ -19,7 +19,7 @@ use Rattle.sw_machine.specs.State.{State}
 use Rattle.sw_machine.specs.Steps.{Accept, Arrive, Begin, Drop, Emit, Fct, FctIn, Forward, Grant, Leads, Reply, Spill, Step, is_begin}
 use Rattle.sw_machine.specs.Model.{network_of}
 use Rattle.sw_net.proofs.CountedCommands.{counted_with_each_step}
-use Rattle.sw_net.specs.Net.{IsNetState, NetAnswers, NetView}
+use Rattle.sw_net.specs.Net.{NetAnswers, NetView}
 use Rattle.sw_net.specs.Unanswered.{Counts, CountsUnanswered, HasCounted}
 use Rattle.sw_net.proofs.Steps.{get_set_other, get_set_same}
 use Rattle.sw_config.specs.Entries.{Declaration}

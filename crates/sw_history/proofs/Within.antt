@@ -1,5 +1,5 @@
 -- A node's next packet, where the limit on unanswered commands lets it begin.
-use Rattle.std.proofs.Common.{Bool, List, None, Option, Some, ap, arith, false, get_or, length, refl, subst, sym, true, ℕ, ◌<◌, ◌∙◌, ◌≡◌, ◌≤◌}
+use Rattle.std.proofs.Common.{Bool, List, None, Option, Some, ap, false, get_or, length, refl, subst, sym, true, ℕ, ◌<◌, ◌∙◌, ◌≡◌, ◌≤◌}
 use Rattle.std.proofs.lemmas.Bool.{false≢true}
 use Rattle.std.proofs.lemmas.Option.{same_Some, slice_get_read}
 use Rattle.std.specs.Prelude.{if◌then◌else◌, option_map, slice_get, ◌↔◌}

@@ -1,7 +1,6 @@
 use Rattle.std.proofs.Common.{Bor, Some, ap, arith, refl, subst, sym, ◌∙◌, ◌≤◌}
 use Rattle.std.proofs.lemmas.Option.{slice_get-get_or}
 use Rattle.std.specs.Prelude.{slice_get, slice_index}
-use Rattle.sw_config.specs.Entries.{Declaration}
 use Rattle.sw_history.proofs.Begun.{declared_at, few_packets}
 use Rattle.sw_history.proofs.Ready.{read_ready}
 use Rattle.sw_history.proofs.Way.{begun_on}

@@ -4,7 +4,6 @@ use Rattle.sw_history.proofs.Adds.{add_is_kept, made_may_follow, same_view, writ
 use Rattle.sw_history.proofs.Counts.{counted_more, few_begun, length-counted}
 use Rattle.sw_history.proofs.Noting.{all_noted, noted_more, same_senders}
 use Rattle.sw_history.proofs.Refused.{refused}
-use Rattle.sw_config.specs.Entries.{Declaration}
 use Rattle.sw_history.specs.Noted.{noted_step}
 use Rattle.sw_history.proofs.history.History.add.Goals as goal
 use Rattle.sw_history.specs.History.{Adds, HistoryView, IsCounted, IsKept, Keeps}
