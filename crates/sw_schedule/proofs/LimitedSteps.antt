@@ -1,5 +1,5 @@
 -- A step that is made where it keeps the limits on unanswered commands.
-use Rattle.std.proofs.Common.{Err, List, None, Ok, Option, Result, Some, [], false, inl, inr, refl, subst, sym, true, ℕ, ◌⊎◌, ◌++◌, ◌∙◌, ◌∷◌, ◌≡◌}
+use Rattle.std.proofs.Common.{Err, List, Ok, Option, Result, Some, [], false, inl, inr, refl, subst, sym, true, ℕ, ◌⊎◌, ◌++◌, ◌∙◌, ◌∷◌, ◌≡◌}
 use Rattle.std.proofs.lemmas.Bool.{false≢true}
 use Rattle.std.specs.Prelude.{OnErr, OnOk, ◌↔◌}
 use Rattle.sw_char.specs.declared.nchar.End.{End}
