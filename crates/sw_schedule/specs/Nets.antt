@@ -32,7 +32,8 @@ abbrev pub made_with : List Step → Step → Option StepRefusal → List Step
 made_with before step None = before ++ step ∷ []
 made_with before step (Some refusal) = before
 
--- behind steps that begin fewer packets than can be counted, from each state of the first the step leads to one of the second, or it is refused, and nothing changed
+-- behind steps that begin fewer packets than can be counted, from each state of the first the step leads to one of the second, or it is
+-- refused, and nothing changed
 abbrev pub NetMakesOr : {R A : Type 0} → NetView R A → Counts → Step → Option StepRefusal → NetView R A → Counts → Type 0
 NetMakesOr v c step refusal w e =
     (before : List Step) (s : State) → AreFewBegun before → IsNetState v s → IsAfter v.declared before s c
