@@ -1,5 +1,5 @@
 -- What a history keeps when a step is added.
-use Rattle.std.proofs.Common.{◌≡◌, ◌++◌, ◌+◌, ◌<◌, ◌∷◌, ◌∙◌, ⊎_elim, [], ℕ, List, None, Ok, Some, drop, false, length, map, set, take, refl, sym, ap, subst, arith, append-nil, length-append}
+use Rattle.std.proofs.Common.{◌≡◌, ◌++◌, ◌+◌, ◌<◌, ◌≤◌, ◌∷◌, ◌∙◌, ⊎_elim, [], ℕ, List, None, Ok, Some, drop, false, length, map, set, take, refl, sym, ap, subst, arith, append-nil, length-append}
 use Rattle.std.proofs.Math.ListN.{drop_of_length-le}
 use Rattle.std.proofs.lemmas.List.{map-append, take_all}
 use Rattle.std.specs.Prelude.{slice_get}
@@ -7,20 +7,20 @@ use Rattle.std.proofs.lemmas.Bool.{cases_eq}
 use Rattle.std.proofs.lemmas.Option.{same_Some}
 use Rattle.sw_char.specs.declared.nchar.End.{End}
 use Rattle.sw_config.specs.Valid.{IsValid}
-use Rattle.sw_history.proofs.CountedOn.{counted_on}
+use Rattle.sw_history.proofs.FewBegun.{few_are_begun}
 use Rattle.sw_history.specs.History.{HistoryView, IsCounted, IsKept, IsNext, Keeps, with_steps}
-use Rattle.sw_history.specs.Unanswered.{AreCounted, Counts, IsCounting, counted_at}
-use Rattle.sw_history.specs.declared.unanswered.Counting.{Counting}
 use Rattle.sw_history.specs.Next.{beginner_of}
 use Rattle.sw_load.proofs.Grown.{begun_at_last, grows, its_own, not_its_own}
 use Rattle.sw_load.specs.History.{BeginsNext, IsHistory, KeepsLimit, packets_at, packets_of}
-use Rattle.sw_load.specs.Load.{LoadEntry}
+use Rattle.sw_load.specs.Load.{LoadEntry, packet_count}
 use Rattle.sw_machine.specs.Begun.{Begun, beginning, beginnings}
 use Rattle.sw_machine.specs.Network.{Network}
 use Rattle.sw_machine.specs.State.{State}
 use Rattle.sw_machine.specs.Steps.{Accept, Arrive, Begin, Drop, Emit, Fct, FctIn, Forward, Grant, Leads, Reply, Spill, Step, is_begin}
 use Rattle.sw_machine.specs.Model.{network_of}
-use Rattle.sw_net.specs.Net.{IsNetState, NetAnswers, NetView}
+use Rattle.sw_net.proofs.CountedCommands.{counted_with_each_step}
+use Rattle.sw_net.specs.Net.{NetAnswers, NetView}
+use Rattle.sw_net.specs.Unanswered.{Counts, CountsUnanswered, HasCounted}
 use Rattle.sw_net.proofs.Steps.{get_set_other, get_set_same}
 use Rattle.sw_config.specs.Entries.{Declaration}
 
@@ -96,13 +96,14 @@ module _ (d : Declaration) (steps : List Step) (begun : List ℕ) (counted : IsC
   some_counted (Reply m) n before h at lt = absurd cc
 
 -- a step that the net made goes to the end of the history
-pub add_is_kept : {R A : Type 0} (net after : NetView R A) (load : List LoadEntry) (steps : List Step) (step : Step) (room less : ℕ) (begun more : List ℕ) (counts new_counts : Counts) → IsValid net.declared → after.declared ≡ net.declared
+pub add_is_kept : {R A : Type 0} (net after : NetView R A) (load : List LoadEntry) (steps : List Step) (step : Step) (room less : ℕ) (begun more : List ℕ) (counts new_counts : Counts) → IsValid net.declared → packet_count load ≤ 65536 → after.declared ≡ net.declared
     → IsKept net (record { declared = net.declared; load = load; steps = steps; room = room }) begun counts → BeginsNext (network_of net.declared) (packets_of load) steps step
     → ((s : State) → IsHistory (network_of net.declared) (packets_of load) steps s → KeepsLimit (network_of net.declared) steps s step)
-    → NetAnswers net step (Ok tt) after → length more ≡ length begun → IsCounted net.declared (steps ++ step ∷ []) more → (counting : Counting) → IsCounting net step counting → ((s : State) → IsNetState after s → new_counts ≡ counted_at s counts counting)
+    → NetAnswers net step (Ok tt) after → length more ≡ length begun → IsCounted net.declared (steps ++ step ∷ []) more → HasCounted net counts step after new_counts
     → IsKept after (record { declared = after.declared; load = load; steps = steps ++ step ∷ []; room = less }) more new_counts
-add_is_kept net after load steps step room less begun more counts new_counts valid same kept next keep answers all counted counting is_counting new =
+add_is_kept net after load steps step room less begun more counts new_counts valid total same kept next keep answers all counted has_counted =
     let t = answers kept.state kept.in_net in
+    let few = few_are_begun (network_of net.declared) load steps kept.state kept.leads total in
     let is : IsKept after (record { declared = net.declared; load = load; steps = steps ++ step ∷ []; room = less }) more new_counts = record {
       network = same;
       packets = kept.packets;
@@ -112,8 +113,8 @@ add_is_kept net after load steps step room less begun more counts new_counts val
       leads = grows (network_of net.declared) (packets_of load) steps kept.state kept.leads step t.0 t.1 next (keep kept.state kept.leads);
       in_net = t.2;
       unanswered =
-          subst (AreCounted net.declared (steps ++ step ∷ []) t.0) (sym (new t.0 t.2))
-          (counted_on net.declared valid load steps kept.state kept.leads counts kept.unanswered kept.packets step t.0 t.1 next counting (is_counting kept.state kept.in_net));
+          subst (CountsUnanswered net.declared (steps ++ step ∷ []) t.0) (sym (has_counted kept.state t.0 kept.in_net t.2))
+          (counted_with_each_step net.declared valid steps kept.state counts kept.leads.run kept.unanswered few step t.0 t.1);
     } in
     subst (λ (e : Declaration). IsKept after (record { declared = e; load = load; steps = steps ++ step ∷ []; room = less }) more new_counts) (sym same) is
 

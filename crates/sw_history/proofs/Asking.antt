@@ -5,11 +5,11 @@ use Rattle.sw_config.specs.Entries.{Declaration}
 use Rattle.sw_history.proofs.Idle.{tells_next}
 use Rattle.sw_history.specs.Asking.{AreAsking}
 use Rattle.sw_history.specs.History.{HistoryView, IsKept}
-use Rattle.sw_history.specs.Unanswered.{Counts}
 use Rattle.sw_load.specs.History.{packets_of}
 use Rattle.sw_machine.specs.Steps.{Grant}
 use Rattle.sw_net.specs.Asking.{AreAsking as NetAsks, IsInput}
 use Rattle.sw_net.specs.Net.{NetView}
+use Rattle.sw_net.specs.Unanswered.{Counts}
 
 -- what the net tells is so of the history
 pub asks_then : {R A : Type 0} (v : NetView R A) (h : HistoryView) (begun : List ℕ) {counts : Counts} → IsKept v h begun counts → (e ports : ℕ) → NetAsks v e ports → AreAsking h.declared (packets_of h.load) h.steps e ports

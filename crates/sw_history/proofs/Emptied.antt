@@ -1,5 +1,5 @@
 -- Where nothing is undelivered after a history.
-use Rattle.std.proofs.Common.{List, Some, [], ap, append-nil, arith, length, length-append, map, refl, subst, suc, sym, zero, ⊎_elim, ℕ, ◌+◌, ◌++◌, ◌<◌, ◌∙◌, ◌∷◌, ◌≡◌}
+use Rattle.std.proofs.Common.{List, Some, [], ap, append-nil, arith, count_by, length, length-append, map, refl, subst, suc, sym, zero, ⊎_elim, ℕ, ◌+◌, ◌++◌, ◌<◌, ◌∙◌, ◌∷◌, ◌≡◌}
 use Rattle.std.proofs.lemmas.Bool.{cases_lt}
 use Rattle.std.proofs.lemmas.List.{nil_from_length}
 use Rattle.std.proofs.lemmas.List.Sums.{count_by-le-length, sum_by-cons}
@@ -7,19 +7,19 @@ use Rattle.std.specs.Prelude.{slice_get}
 use Rattle.sw_char.specs.declared.nchar.NChar.TheVariants.{Data, Eop}
 use Rattle.sw_config.proofs.Limits.{limit_within, limit_at_least}
 use Rattle.sw_config.specs.Entries.{Declaration}
+use Rattle.sw_config.specs.Limits.{limit_at}
 use Rattle.sw_config.specs.Valid.{IsValid}
 use Rattle.sw_history.proofs.Begun.{declared_at}
-use Rattle.sw_history.proofs.Commands.{limit_is, one_more}
 use Rattle.sw_history.proofs.Follows.{follows_where_possible}
 use Rattle.sw_history.specs.Next.{AreKeptBack, BeginsOne, begin_of}
 use Rattle.sw_load.proofs.Grown.{slice_get-behind}
 use Rattle.sw_load.specs.History.{BeginsNext, IsHistory, IsWhole, KeepsLimit, next_packet, packets_at, packets_of}
 use Rattle.sw_load.specs.Laws.{AreDeclared}
 use Rattle.sw_load.specs.Load.{LoadEntry}
-use Rattle.sw_machine.proofs.Balance.{count_cons}
+use Rattle.sw_machine.proofs.Balance.{count_append}
 use Rattle.sw_machine.proofs.DeclaredNetworks.{are_networks}
 use Rattle.sw_machine.proofs.Declares.{declared_are_declared}
-use Rattle.sw_machine.proofs.Limits.{nothing_is_unanswered}
+use Rattle.sw_machine.proofs.Limits.{beginnings_push, nothing_is_unanswered}
 use Rattle.sw_machine.specs.Begun.{Begun, beginnings}
 use Rattle.sw_machine.specs.Certificate.{Certificate, IsAccepted}
 use Rattle.sw_machine.specs.Limits.{is_command_to}
@@ -53,6 +53,10 @@ whole_by net packets steps n none (b ∷ rest) e =
 -- where no node has a packet left, all is begun
 pub whole_if : (net : Network) (packets : List Begun) (steps : List Step) (s : State) → IsHistory net packets steps s → ((n : ℕ) (b : Begun) → next_packet net packets steps n ≡ Some b → ⊥) → IsWhole net packets steps
 whole_if net packets steps s history none n = let front = history.in_order n in whole_by net packets steps n (none n) front.0 front.1
+
+limit_is : (d : Declaration) (n : ℕ) → (network_of d).limit n ≡ limit_at d n
+unfolding network_of
+limit_is d n = refl
 
 module _ (d : Declaration) (valid : IsValid d) (load : List LoadEntry) (steps : List Step) (s : State) (history : IsHistory (network_of d) (packets_of load) steps s) (empty : undelivered (network_of d) s ≡ 0) where
   abbrev net : Network
@@ -98,13 +102,13 @@ module _ (d : Declaration) (valid : IsValid d) (load : List LoadEntry) (steps : 
   pub keeps_next : (cert : Certificate) → IsAccepted net cert → (b : Begun) → KeepsLimit net steps s (begin_of b)
   keeps_next cert acc b limit came has out =
       let n = (net.flow b.flow).to in
-      let limited = sym (limit_is d valid n) ∙ has in
+      let limited = sym (limit_is d n) ∙ has in
       let inside = subst (λ k. n < k) (sym (nodes_are d)) (limit_within d valid n limit limited) in
       let zero_is = nothing_is_unanswered net cert (are_networks d valid) acc steps s history.run empty n inside came out in
       let least = limit_at_least d valid n limit limited in
-      let more = one_more d valid steps b.flow b.cargo b.end n in
-      let few = count_by-le-length (is_command_to net n) (b ∷ []) in
-      let one = count_cons (is_command_to net n) b [] in
+      let push = ap (count_by (is_command_to net n)) (beginnings_push steps (begin_of b)) in
+      let more = count_append (is_command_to net n) (beginnings steps) (b ∷ []) in
+      let one = count_by-le-length (is_command_to net n) (b ∷ []) in
       omega arith
 
   -- and none is kept back

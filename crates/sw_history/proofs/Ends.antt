@@ -10,7 +10,7 @@ use Rattle.sw_net.proofs.Alike.{same_undelivered}
 use Rattle.sw_history.proofs.Follows.{follows_where_possible}
 use Rattle.sw_history.proofs.Within.{none_within}
 use Rattle.sw_history.specs.Next.{begin_of}
-use Rattle.sw_history.specs.Unanswered.{Counts, within_limit}
+use Rattle.sw_history.specs.Noted.{within_limit}
 use Rattle.sw_history.specs.Way.{IsOnTheWay, NoneIsReady, NoneMayBegin}
 use Rattle.sw_load.proofs.Fronts.{histories_end, no-more}
 use Rattle.sw_load.specs.History.{IsWhole, next_packet, packets_at, packets_of}
@@ -30,6 +30,7 @@ use Rattle.sw_machine.proofs.DeclaredNetworks.{are_networks}
 use Rattle.sw_machine.specs.Model.{network_of}
 use Rattle.sw_net.specs.Asked.{IsQuietNet}
 use Rattle.sw_net.specs.Net.{IsNet, IsNetState, NetView}
+use Rattle.sw_net.specs.Unanswered.{Counts}
 use Rattle.sw_route.specs.declared.look.Look.{Look}
 use Rattle.sw_config.specs.Valid.{IsValid}
 

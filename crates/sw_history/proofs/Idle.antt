@@ -10,7 +10,6 @@ use Rattle.sw_net.specs.CellPossible.{CanStepAt}
 use Rattle.sw_history.proofs.Follows.{follows_where_possible, no_begin_keeps, no_begin_next}
 use Rattle.sw_history.specs.History.{HistoryView, IsKept, IsNext, IsNextAt, Keeps}
 use Rattle.sw_history.specs.Next.{BeginsOne, begin_of, IsIdle}
-use Rattle.sw_history.specs.Unanswered.{Counts}
 use Rattle.sw_load.specs.History.{BeginsNext, KeepsLimit, next_packet, packet_of, packets_at, packets_of}
 use Rattle.sw_load.specs.Laws.{AreDeclared}
 use Rattle.sw_load.specs.Load.{LoadEntry}
@@ -26,6 +25,7 @@ use Rattle.sw_net.specs.Asked.{CanStep}
 use Rattle.sw_net.specs.Making.{IsMoveOf}
 use Rattle.sw_net.specs.Net.{NetView}
 use Rattle.sw_net.specs.Possible.{Tells, TellsBeginning}
+use Rattle.sw_net.specs.Unanswered.{Counts}
 use Rattle.sw_config.specs.Entries.{Declaration}
 use Rattle.sw_config.specs.Valid.{IsValid}
 

@@ -5,7 +5,6 @@ use Rattle.std.proofs.lemmas.List.{length-replicate}
 use Rattle.sw_char.specs.declared.nchar.End.{End}
 use Rattle.sw_history.proofs.Follows.{follows_where_possible}
 use Rattle.sw_history.specs.History.{HistoryView, IsKept, IsNext, LeadsTo}
-use Rattle.sw_history.specs.Unanswered.{no_counts}
 use Rattle.sw_load.specs.History.{next_packet, packets_of}
 use Rattle.sw_load.specs.Laws.{AreDeclared}
 use Rattle.sw_load.specs.Load.{LoadEntry}
@@ -13,12 +12,13 @@ use Rattle.sw_machine.specs.State.{State, empty}
 use Rattle.sw_machine.specs.Steps.{Begin}
 use Rattle.sw_machine.specs.Model.{network_of}
 use Rattle.sw_net.specs.Net.{IsNetState, NetView}
+use Rattle.sw_net.specs.Unanswered.{nothing_counted}
 use Rattle.sw_load.proofs.Sends.{flow_from}
 use Rattle.sw_config.specs.Entries.{Declaration, FlowEntry, all_flows}
 use Rattle.sw_history.proofs.Zero.{all_zero, new_history, none_counted}
 
 pub new_is_kept : {R A : Type 0} (net : NetView R A) (load : List LoadEntry) (room nodes : ℕ) → IsNetState net (empty (network_of net.declared)) → AreDeclared net.declared load → nodes ≡ length net.declared.nodes
-    → IsKept net (record { declared = net.declared; load = load; steps = []; room = room }) (replicate nodes 0) (no_counts nodes)
+    → IsKept net (record { declared = net.declared; load = load; steps = []; room = room }) (replicate nodes 0) (nothing_counted nodes)
 new_is_kept net load room nodes state packets all = record {
   network = refl;
   packets = packets;

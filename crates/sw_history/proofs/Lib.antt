@@ -1,13 +1,11 @@
 pub mod Follows
 pub mod Adds
 mod Counts
-pub mod Commands
+pub mod FewBegun
 mod Idle
 mod Kept
 pub mod Zero
-mod Watching
 pub mod Within
-mod CountedOn
 pub mod Ready
 mod Refused
 mod Whole

@@ -4,14 +4,11 @@ use Rattle.std.proofs.lemmas.List.{length-replicate}
 use Rattle.std.specs.Prelude.{OnErr, replicate, slice_get}
 use Rattle.sw_config.specs.Entries.{Declaration}
 use Rattle.sw_config.specs.Valid.{IsValid}
-use Rattle.sw_history.proofs.Commands.{few_commands}
 use Rattle.sw_history.proofs.Ends.{is_drained, none_may, not_over}
 use Rattle.sw_history.proofs.Way.{moved_on}
 use Rattle.sw_history.proofs.Zero.{all_zero, new_history, none_counted}
 use Rattle.sw_history.specs.Drained.{IsDrained, IsUnderWay}
-use Rattle.sw_history.specs.Unanswered.{AreCounted, AreFew, Counts, no_counts}
 use Rattle.sw_history.specs.Way.{BeginsOne, CountsMove, IsOnTheWay, MovesOne, NoneMayBegin}
-use Rattle.sw_load.proofs.Packets.{length-packets}
 use Rattle.sw_load.specs.History.{packets_of}
 use Rattle.sw_load.specs.Laws.{AreDeclared}
 use Rattle.sw_load.specs.Limit.{enough_limit}
@@ -24,10 +21,11 @@ use Rattle.sw_machine.specs.State.{empty}
 use Rattle.sw_machine.specs.Steps.{Step}
 use Rattle.sw_net.specs.Asked.{IsQuietNet}
 use Rattle.sw_net.specs.Net.{IsNet, IsNetState, NetView}
+use Rattle.sw_net.specs.Unanswered.{Counts, CountsUnanswered, nothing_counted}
 use Rattle.sw_route.specs.declared.look.Look.{Look}
 
 module _ {R A : Type 0} (load : List LoadEntry) where
-  pub new_way : (v : NetView R A) (begun : List ℕ) (counts : Counts) (nodes : ℕ) → begun ≡ replicate nodes 0 → counts ≡ no_counts nodes → IsNetState v (empty (network_of v.declared)) → nodes ≡ length v.declared.nodes → IsOnTheWay load v begun counts [] 0
+  pub new_way : (v : NetView R A) (begun : List ℕ) (counts : Counts) (nodes : ℕ) → begun ≡ replicate nodes 0 → counts ≡ nothing_counted nodes → IsNetState v (empty (network_of v.declared)) → nodes ≡ length v.declared.nodes → IsOnTheWay load v begun counts [] 0
   new_way v begun counts nodes is none state all = record {
     state = empty (network_of v.declared);
     history = new_history v.declared load;
@@ -35,7 +33,7 @@ module _ {R A : Type 0} (load : List LoadEntry) where
     all_nodes = ap length is ∙ length-replicate nodes 0 ∙ all;
     counted = λ n k h. all_zero nodes n k (ap (λ l. slice_get l n) (sym is) ∙ h);
     moves_are = refl;
-    unanswered = subst (AreCounted v.declared [] (empty (network_of v.declared))) (sym none) (none_counted v.declared nodes all);
+    unanswered = subst (CountsUnanswered v.declared [] (empty (network_of v.declared))) (sym none) (none_counted v.declared nodes all);
   }
 
   -- where a step fails, the state is still one that a history leads to
@@ -48,10 +46,6 @@ module _ {R A : Type 0} (load : List LoadEntry) where
   pub no_more_moves : (v : NetView R A) (begun : List ℕ) (counts : Counts) (steps : List Step) (count : ℕ) → IsOnTheWay load v begun counts steps count → count ≤ length steps
   no_more_moves v begun counts steps count way = let all = all_moves steps in let m = way.moves_are in omega arith
 
-  -- the counts, as the calls want them
-  pub few_on_the_way : (v : NetView R A) (begun : List ℕ) (counts : Counts) (steps : List Step) (count : ℕ) → IsOnTheWay load v begun counts steps count → IsValid v.declared → packet_count load ≤ 65536 → AreFew v.declared counts
-  few_on_the_way v begun counts steps count way valid total = few_commands v.declared valid steps way.state counts way.unanswered (packets_of load) way.history (let size = length-packets load in omega arith)
-
   module _ (v u w : NetView R A) (begun after : List ℕ) (counts more last : Counts) (steps : List Step) (count : ℕ) (begins : BeginsOne load v begun counts false u after more) (way : IsOnTheWay load v begun counts steps count) where
     pub still_way : IsOnTheWay load u after more steps count
     still_way =
@@ -59,8 +53,8 @@ module _ {R A : Type 0} (load : List LoadEntry) where
         let there = subst (λ l. IsOnTheWay load u l counts steps count) (sym begins.1) here in
         subst (λ c. IsOnTheWay load u after c steps count) (sym begins.2) there
 
-    pub one_moved : (index : ℕ) (moved : MovesOne u index true w) → CountsMove u more index true w last moved → w.declared ≡ u.declared → IsValid u.declared → AreDeclared u.declared load → IsOnTheWay load w after last (steps ++ (moved.2).step ∷ []) (count + 1)
-    one_moved index moved has_counted same valid all = moved_on load u w same valid all after more last moved.0 moved.2 has_counted steps count still_way
+    pub one_moved : (index : ℕ) (moved : MovesOne u index true w) → CountsMove u more index true w last moved → w.declared ≡ u.declared → IsValid u.declared → packet_count load ≤ 65536 → IsOnTheWay load w after last (steps ++ (moved.2).step ∷ []) (count + 1)
+    one_moved index moved has_counted same valid total = moved_on load u w same valid total after more last moved.0 moved.2 has_counted steps count still_way
 
     module _ (d : Declaration) (same : v.declared ≡ d) (valid : IsValid d) (declared : AreDeclared d load) (total : packet_count load ≤ 65536) (cert : Certificate) (free : IsDeadlockFreeWithinLimits (network_of d) cert) where
       pub none_begin : NoneMayBegin load v steps

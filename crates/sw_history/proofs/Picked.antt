@@ -2,9 +2,9 @@
 use Rattle.std.proofs.Common.{Bool, Err, Ok, Result, length, refl, subst, suc, sym, zero, ℕ, ◌*◌, ◌≡◌}
 use Rattle.std.specs.Prelude.{IfOk}
 use Rattle.sw_history.specs.Enabled.{CanStepBelow}
-use Rattle.sw_history.specs.Unanswered.{Counts}
 use Rattle.sw_history.specs.Way.{Asks, CountsMove, MovesOne, MovesPicked}
 use Rattle.sw_net.specs.Net.{NetView}
+use Rattle.sw_net.specs.Unanswered.{Counts}
 
 module _ {F : Type 0} (step : F → ℕ → ℕ → F → Type 0) (f g : F) where
   pub none_asked : (count index : ℕ) → count ≡ 0 → g ≡ f → Asks step f count index g

@@ -3,8 +3,7 @@ use Rattle.std.proofs.Common.{None, Option, Some, ap, arith, false, inl, inr, sy
 use Rattle.std.specs.Option.{is_some, option_map}
 use Rattle.std.specs.Prelude.{List, slice_get}
 use Rattle.sw_config.specs.Entries.{Declaration}
-use Rattle.sw_history.specs.Noted.{packet_after}
-use Rattle.sw_history.specs.Unanswered.{Counts, within_limit}
+use Rattle.sw_history.specs.Noted.{packet_after, within_limit}
 use Rattle.sw_history.specs.Way.{IsReady, ready_packet}
 use Rattle.sw_load.specs.History.{packets_at, packets_of}
 use Rattle.sw_load.specs.Load.{LoadEntry}
@@ -13,6 +12,7 @@ use Rattle.sw_machine.specs.Model.{network_of}
 use Rattle.sw_machine.specs.Begun.{Begun}
 use Rattle.sw_net.specs.Net.{NetView}
 use Rattle.sw_net.specs.Possible.{TellsBeginning}
+use Rattle.sw_net.specs.Unanswered.{Counts}
 
 pub ready_if : {X R A : Type 0} (load : List LoadEntry) (v : NetView R A) (counts : Counts) (n k : ℕ) (packet : X → Begun) (next : Option X) → option_map packet next ≡ ready_packet load v.declared counts n k → TellsBeginning v n true
     → IsReady load v counts n k (is_some next)

@@ -2,7 +2,6 @@
 use Rattle.std.proofs.Common.{◌≡◌, ℕ, Err, List, subst, sym}
 use Rattle.sw_history.proofs.Follows.{follows_where_possible}
 use Rattle.sw_history.specs.History.{Adds, HistoryView, IsKept, Keeps}
-use Rattle.sw_history.specs.Unanswered.{Counts}
 use Rattle.sw_history.specs.Makes.{Makes}
 use Rattle.sw_history.specs.declared.fault.StepFault.{StepFault}
 use Rattle.sw_history.specs.declared.fault.StepFault.TheVariants.{Memory, NotEnabled}
@@ -10,6 +9,7 @@ use Rattle.sw_load.specs.History.{BeginsNext, packets_of}
 use Rattle.sw_machine.specs.Steps.{IsPossible, Step}
 use Rattle.sw_machine.specs.Model.{network_of}
 use Rattle.sw_net.specs.Net.{NetView}
+use Rattle.sw_net.specs.Unanswered.{Counts}
 use Rattle.sw_config.specs.Entries.{Declaration}
 
 pub refused : {R A : Type 0} (net after : NetView R A) (h k : HistoryView) (begun : List ℕ) (step : Step) (fault : StepFault) {counts : Counts} → IsKept net h begun counts → BeginsNext (network_of h.declared) (packets_of h.load) h.steps step → Keeps h step

@@ -14,6 +14,7 @@ use Rattle.sw_net.specs.Asked.{CanStep, IsFirst}
 use Rattle.sw_net.specs.Making.{MovesAt}
 use Rattle.sw_net.specs.Net.{IsNet, NetAnswers, NetView}
 use Rattle.sw_net.specs.Possible.{Tells}
+use Rattle.sw_net.specs.Unanswered.{Counts, HasCounted, HasCountedMove}
 use Rattle.sw_route.specs.declared.look.Look.{Look}
 use Rattle.sw_machine.specs.declared.step.Step.{Step as CodeStep}
 
@@ -32,11 +33,12 @@ module _ {R A : Type 0} (answer : R → ℕ → Look) (arbiter_ports : A → ℕ
   pub not_idle : (e : ℕ) → CanStep v e true → (r : Result (Option CodeStep) AllocError) (w : NetView R A) → MovesAt answer policy v e r w → r ≡ Ok None → ⊥
   not_idle e can r w h nothing = let never = (subst (λ k. MovesAt answer policy v e k w) nothing h).0 in ∥∥₁_elim is.reached none_is (λ k. never k.0 k.1 (can k.0 k.1))
 
--- a step that was made
-pub has_moved : {R A : Type 0} (answer : R → ℕ → Look) (policy : A → ℕ → ℕ → A → Type 0) (v w : NetView R A) (e : ℕ) (r : Result (Option CodeStep) AllocError) (step : CodeStep) → MovesAt answer policy v e r w → r ≡ Ok (Some step) → HasMoved v e w
-has_moved answer policy v w e r step h is =
+-- a step that was made and counted
+pub has_moved : {R A : Type 0} (answer : R → ℕ → Look) (policy : A → ℕ → ℕ → A → Type 0) (v w : NetView R A) (counts after : Counts) (e : ℕ) (r : Result (Option CodeStep) AllocError) (step : CodeStep) → MovesAt answer policy v e r w → HasCountedMove v counts r w after → r ≡ Ok (Some step)
+    → (moved : HasMoved v e w) × HasCounted v counts moved.step w after
+has_moved answer policy v w counts after e r step h counted is =
     let moves = subst (λ k. MovesAt answer policy v e k w) is h in
-    record { step = machine_step step; belongs = moves.move.belongs; no_begin = moves.move.no_begin; made = moves.made }
+    (record { step = machine_step step; belongs = moves.move.belongs; no_begin = moves.move.no_begin; made = moves.made }, subst (λ k. HasCountedMove v counts k w after) is counted)
 
 pub first_within : {R A : Type 0} (v : NetView R A) (o : Option ℕ) → IsFirst v o → IfSome o (λ e. e < 2 * length v.declared.links)
 first_within v None h = tt

@@ -1,28 +1,22 @@
 -- Before any step.
-use Rattle.std.proofs.Common.{List, Some, [], ap, arith, count_by, length, refl, suc, sym, zero, ℕ, ◌++◌, ◌∙◌, ◌∷◌, ◌≡◌}
-use Rattle.std.proofs.Math.Nat.{min-eq_left}
-use Rattle.std.proofs.lemmas.List.{length-replicate}
-use Rattle.std.specs.Prelude.{replicate, slice_get, slice_index}
+use Rattle.std.proofs.Common.{List, Some, [], length, refl, subst, suc, sym, zero, ℕ, ◌++◌, ◌∷◌, ◌≡◌}
+use Rattle.std.specs.Prelude.{replicate, slice_get}
 use Rattle.sw_config.specs.Entries.{Declaration}
-use Rattle.sw_history.specs.Unanswered.{AreCounted, no_counts}
 use Rattle.sw_load.specs.History.{IsHistory, packets_at, packets_of}
 use Rattle.sw_load.specs.Load.{LoadEntry}
-use Rattle.sw_machine.proofs.Cuts.{cuts_are_equal, no_cons}
-use Rattle.sw_machine.specs.Limits.{KeepsLimits, is_command_at}
+use Rattle.sw_machine.proofs.Cuts.{no_cons}
+use Rattle.sw_machine.specs.Limits.{KeepsLimits}
 use Rattle.sw_machine.specs.Model.{network_of}
 use Rattle.sw_machine.specs.Network.{Network}
 use Rattle.sw_machine.specs.State.{empty}
 use Rattle.sw_machine.specs.Steps.{Begin}
+use Rattle.sw_net.proofs.CountedCommands.{counted_at_first}
+use Rattle.sw_net.specs.Unanswered.{CountsUnanswered, nothing_counted}
 
 pub all_zero : (n k count : ℕ) → slice_get (replicate n 0) k ≡ Some count → count ≡ 0
 all_zero zero k count h = absurd cc
 all_zero (suc n) zero count h = cc
 all_zero (suc n) (suc k) count h = all_zero n k count h
-
-zero_at : (n k : ℕ) → slice_index (replicate n 0) k ≡ 0
-zero_at zero k = refl
-zero_at (suc n) zero = refl
-zero_at (suc n) (suc k) = zero_at n k
 
 no_keep : (net : Network) → KeepsLimits net []
 no_keep net [] after flow cargo end s e r = absurd (no_cons (Begin flow cargo end) after e)
@@ -32,12 +26,5 @@ pub new_history : (d : Declaration) (load : List LoadEntry) → IsHistory (netwo
 new_history d load = record { run = refl; in_order = λ n. (packets_at (network_of d) n (packets_of load), refl); keeps = no_keep (network_of d) }
 
 -- nothing is unanswered
-pub none_counted : (d : Declaration) (nodes : ℕ) → nodes ≡ length d.nodes → AreCounted d [] (empty (network_of d)) (no_counts nodes)
-none_counted d nodes all = record {
-  by_node = record { commands = length-replicate nodes 0 ∙ all; replies = length-replicate nodes 0 ∙ all };
-  commands = λ n limit has. zero_at nodes n;
-  replies = λ n limit came has out.
-      let none : came ≡ [] = (cuts_are_equal [] came [] out.0 [] out.1 refl).0 in
-      let zero_is : count_by (is_command_at (network_of d) n) came ≡ 0 = ap (count_by (is_command_at (network_of d) n)) none in
-      (0, sym zero_is, zero_at nodes n ∙ sym (min-eq_left {n = 0} {m = 4294967295} (omega arith)));
-}
+pub none_counted : (d : Declaration) (nodes : ℕ) → nodes ≡ length d.nodes → CountsUnanswered d [] (empty (network_of d)) (nothing_counted nodes)
+none_counted d nodes all = subst (λ k. CountsUnanswered d [] (empty (network_of d)) (nothing_counted k)) (sym all) (counted_at_first d)

@@ -1,7 +1,6 @@
 -- A history as callers see it.
 use Rattle.std.specs.Prelude.{Err, List, Ok, Result, [], length, slice_get, Some, ℕ, ◌++◌, ◌-◌, ◌∷◌, ◌≡◌}
 use Rattle.sw_history.specs.Next.{MayFollow}
-use Rattle.sw_history.specs.Unanswered.{AreCounted, Counts}
 use Rattle.sw_history.specs.declared.fault.StepFault.{StepFault}
 use Rattle.sw_history.specs.declared.fault.StepFault.TheVariants.{Memory, NotEnabled}
 use Rattle.sw_load.specs.History.{IsHistory, KeepsLimit, packets_at, packets_of}
@@ -13,6 +12,7 @@ use Rattle.sw_machine.specs.State.{State}
 use Rattle.sw_machine.specs.Steps.{Step}
 use Rattle.sw_machine.specs.Model.{network_of}
 use Rattle.sw_net.specs.Net.{IsNetState, NetView}
+use Rattle.sw_net.specs.Unanswered.{Counts, CountsUnanswered}
 use Rattle.sw_config.specs.Entries.{Declaration}
 use Rattle.sw_config.specs.Valid.{IsValid}
 
@@ -71,4 +71,4 @@ pub record IsKept {R A : Type 0} (net : NetView R A) (h : HistoryView) (begun : 
   pub state : State
   pub leads : LeadsTo h state
   pub in_net : IsNetState net state
-  pub unanswered : AreCounted h.declared h.steps state counts
+  pub unanswered : CountsUnanswered h.declared h.steps state counts

@@ -1,7 +1,6 @@
 pub mod Next
 pub mod Laws
 pub mod History
-pub mod Unanswered
 pub mod Makes
 pub mod Noted
 pub mod Asking

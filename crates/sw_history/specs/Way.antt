@@ -3,8 +3,7 @@ use Rattle.std.specs.Prelude.{Bool, List, None, Ok, Option, Some, [], false, len
 use Rattle.sw_config.specs.Entries.{Declaration}
 use Rattle.sw_history.specs.Enabled.{CanStepBelow, IsChosen}
 use Rattle.sw_history.specs.Next.{BeginsOne as MayBeginNext, MayFollow, begin_of}
-use Rattle.sw_history.specs.Unanswered.{AreCounted, Counts, IsCounting, counted_at, within_limit}
-use Rattle.sw_history.specs.declared.unanswered.Counting.{Counting}
+use Rattle.sw_history.specs.Noted.{within_limit}
 use Rattle.sw_load.specs.History.{IsHistory, packets_at, packets_of}
 use Rattle.sw_load.specs.Load.{LoadEntry}
 use Rattle.sw_machine.specs.Begun.{Begun, beginnings, moves}
@@ -15,6 +14,7 @@ use Rattle.sw_machine.specs.Model.{network_of}
 use Rattle.sw_net.specs.Asked.{IsQuietNet}
 use Rattle.sw_net.specs.Net.{IsNetState, NetAnswers, NetView}
 use Rattle.sw_net.specs.Possible.{TellsBeginning}
+use Rattle.sw_net.specs.Unanswered.{Counts, CountsUnanswered, HasCounted}
 
 -- the net is in the state after these steps, so many of them no beginnings; begun tells by node how many packets it has begun, and the counts what
 -- is unanswered
@@ -25,7 +25,7 @@ pub record IsOnTheWay {R A : Type 0} (load : List LoadEntry) (v : NetView R A) (
   pub all_nodes : length begun ≡ length v.declared.nodes
   pub counted : (n k : ℕ) → slice_get begun n ≡ Some k → k ≡ length (packets_at (network_of v.declared) n (beginnings steps))
   pub moves_are : moves steps ≡ count
-  pub unanswered : AreCounted v.declared steps state counts
+  pub unanswered : CountsUnanswered v.declared steps state counts
 
 -- the packet that node n begins next, where it has begun so many, if it is within the limit
 abbrev pub ready_packet : List LoadEntry → Declaration → Counts → ℕ → ℕ → Option Begun
@@ -73,13 +73,9 @@ abbrev pub MovesOne : {R A : Type 0} → NetView R A → ℕ → Bool → NetVie
 MovesOne v index true w = (e : ℕ) × IsChosen v index e × HasMoved v e w
 MovesOne v index false w = (w ≡ v) × IsQuietNet v true
 
--- what is unanswered is counted behind the step, which led to this state of the net
-abbrev pub HasCounted : {R A : Type 0} → NetView R A → Step → Counts → NetView R A → Counts → Type 0
-HasCounted v step counts w after = (counting : Counting) × IsCounting v step counting × ((t : State) → IsNetState w t → after ≡ counted_at t counts counting)
-
--- so it is of the step that was made; where none was, no count has changed
+-- the step that was made is counted; where none was, no count has changed
 abbrev pub CountsMove : {R A : Type 0} → (v : NetView R A) → Counts → (index : ℕ) (made : Bool) (w : NetView R A) → Counts → MovesOne v index made w → Type 0
-CountsMove v counts index true w after moved = HasCounted v (moved.2).step counts w after
+CountsMove v counts index true w after moved = HasCounted v counts (moved.2).step w after
 CountsMove v counts index false w after moved = after ≡ counts
 
 -- pick answers with the index where it is asked how many can step; where none can, it is not asked

@@ -1,18 +1,18 @@
 //! The nodes begin their packets.
 ghost use Rattle.std.specs.Prelude.{◌≡◌, ◌<◌, IfNone, IfOk, IfSome, Ok, OnErr, OnOk, length, slice_index, true};
-ghost use Rattle.sw_history.specs.Unanswered.{AreByNode, AreFew};
 ghost use Rattle.sw_history.specs.Way.{BeginsOne, IsReady, NoneIsReady};
 ghost use Rattle.sw_load.specs.Laws.{AreDeclared};
 ghost use Rattle.sw_machine.specs.Steps.{Begin};
 ghost use Rattle.sw_net.specs.Net.{NetAnswers};
 ghost use Rattle.sw_net.specs.Possible.{Tells};
+ghost use Rattle.sw_net.specs.Unanswered.{HasCounted};
 
+use crate::packets::within_limit;
 use crate::record::beginning;
-use crate::unanswered::{Unanswered, counting_of_flow, within_limit};
 use std::alloc::{AllocError, Global};
 use sw_arb::Arbiter;
 use sw_load::{LoadPacket, Senders};
-use sw_net::{Net, NetFault};
+use sw_net::{Net, NetFault, Unanswered};
 use sw_route::Routing;
 
 /// A node that can begin its next packet.
@@ -25,7 +25,6 @@ fn find_ready<R: Routing, A: Arbiter>(
     requires packets { AreDeclared net.now.declared senders.now.load }
     requires network { senders.now.declared ≡ net.now.declared }
     requires nodes { length begun.now ≡ length net.now.declared.nodes }
-    requires counts { AreByNode net.now.declared unanswered.now }
     ensures within { IfSome result (λ n. n < length begun.now) }
     ensures ready { IfSome result (λ n. IsReady senders.now.load net.now unanswered.now n (slice_index begun.now n) true) }
     ensures none { IfNone result (NoneIsReady senders.now.load net.now begun.now unanswered.now) }
@@ -42,21 +41,23 @@ fn find_ready<R: Routing, A: Arbiter>(
     None
 }
 
-/// The node where the packet's flow starts begins it, which has to be possible. Where there is no
-/// memory for it, nothing has changed.
+/// The node where the packet's flow starts begins it, which has to be possible, and it is counted. Where
+/// there is no memory for it, nothing has changed.
 fn begin_packet<R: Routing, A: Arbiter>(
     alloc: Global,
     net: &mut Net<'_, R, A>,
+    unanswered: &mut Unanswered,
     packet: &LoadPacket,
 ) -> Result<(), AllocError>
     requires { Tells net.old (Begin packet.now.flow packet.now.cargo packet.now.marker) true }
     ensures network { net.new.declared ≡ net.old.declared }
     ensures made { OnOk result (NetAnswers net.old (Begin packet.now.flow packet.now.cargo packet.now.marker) (Ok tt) net.new) }
+    ensures counted { OnOk result (HasCounted net.old unanswered.old (Begin packet.now.flow packet.now.cargo packet.now.marker) net.new unanswered.new) }
     ensures refused { OnErr result (net.new ≡ net.old) }
 {
     let _network = net.network();
     let begin = beginning(alloc, packet)?;
-    let made = net.step(alloc, &begin);
+    let made = unanswered.step(alloc, net, &begin);
     drop(begin);
     match made {
         Ok(()) => Ok(()),
@@ -79,8 +80,6 @@ pub(crate) fn begin_one<R: Routing, A: Arbiter>(
     requires packets { AreDeclared net.old.declared senders.now.load }
     requires network { senders.now.declared ≡ net.old.declared }
     requires nodes { length begun.old ≡ length net.old.declared.nodes }
-    requires counts { AreByNode net.old.declared unanswered.old }
-    requires few { AreFew net.old.declared unanswered.old }
     ensures network { net.new.declared ≡ net.old.declared }
     ensures nodes { length begun.new ≡ length begun.old }
     ensures begins { IfOk result (λ made. BeginsOne senders.now.load net.old begun.old unanswered.old made net.new begun.new unanswered.new) }
@@ -99,10 +98,8 @@ pub(crate) fn begin_one<R: Routing, A: Arbiter>(
         begun[node as usize],
     ) {
         Some(packet) => {
-            let counting = counting_of_flow(net.network(), packet.flow());
-            begin_packet(alloc, net, packet)?;
+            begin_packet(alloc, net, unanswered, packet)?;
             begun[node as usize] += 1;
-            unanswered.count(net, counting);
             Ok(true)
         }
         None => unreachable!(),

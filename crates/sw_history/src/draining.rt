@@ -2,23 +2,22 @@
 ghost use Rattle.std.specs.Prelude.{◌≡◌, ℕ, IfOk, List, OnErr, length, replicate};
 ghost use Rattle.sw_history.specs.Drained.{IsDrained, IsUnderWay};
 ghost use Rattle.sw_history.specs.Turns.{TurnsLead};
-ghost use Rattle.sw_history.specs.Unanswered.{AreByNode, AreFew, no_counts};
 ghost use Rattle.sw_history.specs.Way.{CountsMove, MovesPicked};
 ghost use Rattle.sw_machine.specs.Steps.{Step};
 ghost use Rattle.sw_load.specs.Laws.{AreDeclared};
 ghost use Rattle.sw_machine.specs.State.{empty};
 ghost use Rattle.sw_machine.specs.Model.{network_of};
 ghost use Rattle.sw_net.specs.Net.{IsNetState};
+ghost use Rattle.sw_net.specs.Unanswered.{nothing_counted};
 
 use crate::begin::begin_one;
 use crate::moves::{count_enabled, move_one};
 use crate::packets::nothing_begun;
-use crate::unanswered::Unanswered;
 use std::alloc::{AllocError, Global};
 use sw_arb::Arbiter;
 use sw_cert::Passed;
 use sw_load::{Load, Senders, enough_limit};
-use sw_net::Net;
+use sw_net::{Net, Unanswered};
 use sw_route::Routing;
 
 /// One of the link ends that can step makes a step: that one which `pick` says, which is asked where
@@ -30,8 +29,6 @@ fn move_picked<R: Routing, A: Arbiter, F: FnMut(usize) -> usize>(
     unanswered: &mut Unanswered,
 ) -> Result<bool, AllocError>
     requires pick { (state : F) (count : _) → F.pre state count }
-    requires counts { AreByNode net.old.declared unanswered.old }
-    requires few { AreFew net.old.declared unanswered.old }
     ensures network { net.new.declared ≡ net.old.declared }
     ensures moves { IfOk result (λ made. (picked : MovesPicked F.step net.old pick.old made net.new pick.new) × CountsMove net.old unanswered.old picked.index made net.new unanswered.new picked.moved) }
     ensures refused { OnErr result (net.new ≡ net.old) }
@@ -56,7 +53,7 @@ fn send_all<'n, R: Routing, A: Arbiter, F: FnMut(usize) -> usize>(
     requires packets { AreDeclared net.old.declared senders.now.load }
     requires network { senders.now.declared ≡ net.old.declared }
     requires begun { begun.old ≡ replicate (length net.old.declared.nodes) 0 }
-    requires counts { unanswered.old ≡ no_counts (length net.old.declared.nodes) }
+    requires counts { unanswered.old ≡ nothing_counted (length net.old.declared.nodes) }
     requires pick { (state : F) (count : _) → F.pre state count }
     ensures network { net.new.declared ≡ net.old.declared }
     ensures drained { IfOk result (λ count. IsDrained senders.now.load net.new count) }

@@ -2,16 +2,15 @@
 
 use crate::fault::StepFault;
 use crate::making::make;
-use crate::packets::{count_begun, is_same, nothing_begun};
+use crate::packets::{count_begun, is_same, nothing_begun, within_limit};
 use crate::record::{Noted, plain};
-use crate::unanswered::{Unanswered, counting_of, within_limit};
 use std::alloc::{AllocError, Global};
 use std::marker::Model;
 use sw_arb::Arbiter;
 use sw_char::End;
 use sw_load::{Load, LoadPacket, Senders};
 use sw_machine::Step;
-use sw_net::Net;
+use sw_net::{Net, Unanswered};
 use sw_route::Routing;
 
 /// The steps that a network has made from its empty state, which begin packets of a load, each node
@@ -178,12 +177,10 @@ impl<'n, R: Routing, A: Arbiter> History<'n, R, A> {
         let _network = self.net.network();
         let beginner = self.beginner(&step)?;
         let note = self.note(&step, beginner);
-        let counting = counting_of(&self.net, &step);
-        let made = make(&mut self.net, alloc, &step);
+        let made = make(&mut self.net, &mut self.unanswered, alloc, &step);
         drop(step);
         made?;
         count_begun(self.begun.as_mut_slice(), beginner);
-        self.unanswered.count(&self.net, counting);
         self.notes.push_reserved(note);
         Ok(())
     }

@@ -14,7 +14,6 @@ mod making;
 mod moves;
 mod packets;
 mod record;
-mod unanswered;
 
 pub use draining::drain;
 pub use fault::StepFault;

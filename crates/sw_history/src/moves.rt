@@ -1,14 +1,12 @@
 //! The steps other than beginnings.
 ghost use Rattle.std.specs.Prelude.{◌≡◌, ◌<◌, ◌*◌, IfNone, IfOk, IfSome, OnErr, length, true};
 ghost use Rattle.sw_history.specs.Enabled.{CanStepBelow, IsChosen, IsNth};
-ghost use Rattle.sw_history.specs.Unanswered.{AreByNode, AreFew};
 ghost use Rattle.sw_history.specs.Way.{CountsMove, MovesOne};
 ghost use Rattle.sw_net.specs.Asked.{IsQuietNet};
 
-use crate::unanswered::{Unanswered, counting_at_end};
 use std::alloc::{AllocError, Global};
 use sw_arb::Arbiter;
-use sw_net::Net;
+use sw_net::{Net, Unanswered};
 use sw_route::Routing;
 use sw_topo::LinkEnd;
 
@@ -64,8 +62,6 @@ pub(crate) fn move_one<R: Routing, A: Arbiter>(
     index: usize,
     unanswered: &mut Unanswered,
 ) -> Result<bool, AllocError>
-    requires counts { AreByNode net.old.declared unanswered.old }
-    requires few { AreFew net.old.declared unanswered.old }
     ensures network { net.new.declared ≡ net.old.declared }
     ensures moves { IfOk result (λ made. (moved : MovesOne net.old index made net.new) × CountsMove net.old unanswered.old index made net.new unanswered.new moved) }
     ensures refused { OnErr result (net.new ≡ net.old) }
@@ -74,13 +70,9 @@ pub(crate) fn move_one<R: Routing, A: Arbiter>(
     let Some(end) = enabled_at(net, index) else {
         return Ok(false);
     };
-    let counting = counting_at_end(net, end);
-    match net.step_of(alloc, end) {
+    match unanswered.step_of(alloc, net, end) {
         Ok(made) => match made {
-            Some(_) => {
-                unanswered.count(net, counting);
-                Ok(true)
-            }
+            Some(_) => Ok(true),
             None => unreachable!(),
         },
         Err(refused) => Err(refused),

@@ -1,14 +1,13 @@
 -- What is counted of commands and of replies tells what is unanswered.
-use Rattle.std.proofs.Common.{◌≡◌, ◌≢◌, ◌==◌, ◌&&◌, ◌||◌, ◌<◌, ◌≤◌, ◌+◌, ◌-◌, ◌∙◌, ◌++◌, ◌∷◌, ◌^◌, [], Bool, List, None, Option, Some, ℕ, ap, arith, count_by, eq-eqb, false, get_or, get_or-set_other, get_or-set_same, is_some, le-ltb, length, length-append, length-set, lt-ltb, min, nat_lt, ne_eqb, refl, replicate, set, subst, sym, true, ⊎_elim}
+use Rattle.std.proofs.Common.{◌≡◌, ◌≢◌, ◌==◌, ◌&&◌, ◌<◌, ◌≤◌, ◌+◌, ◌-◌, ◌∙◌, ◌++◌, ◌∷◌, ◌^◌, [], Bool, List, None, Option, Some, ℕ, ap, arith, count_by, eq-eqb, false, get_or, get_or-set_other, get_or-set_same, is_some, le-ltb, length, length-append, length-set, lt-ltb, min, nat_lt, ne_eqb, refl, replicate, set, subst, sym, true, ⊎_elim}
 use Rattle.std.specs.Prelude.{◌↔◌, if◌then◌else◌, slice_get}
 use Rattle.std.specs.Option.{option_map, option_map_or}
 use Rattle.std.proofs.Math.Nat.{min-eq_left, min-eq_right}
 use Rattle.std.proofs.lemmas.Bool.{and_from, cases_eq, cases_lt, ltb-true}
 use Rattle.std.proofs.lemmas.List.{get_or-replicate, get_or_past, length-replicate}
 use Rattle.sw_char.specs.declared.nchar.End.{End}
-use Rattle.sw_config.proofs.Limits.{limit_within}
-use Rattle.sw_config.proofs.Limits.{limited_flow}
-use Rattle.sw_config.specs.Entries.{Declaration, FlowEntry, ReplyEntry, all_flows, is_answered_at, is_answering, reply_flows}
+use Rattle.sw_config.proofs.Limits.{limit_at_least, limit_within, limited_flow}
+use Rattle.sw_config.specs.Entries.{Declaration, FlowEntry, ReplyEntry, all_flows, is_answered_at, reply_flows}
 use Rattle.sw_config.specs.Limits.{is_limited, limit_at}
 use Rattle.sw_config.specs.Valid.{IsValid}
 use Rattle.sw_machine.proofs.Balance.{count_append}
@@ -25,7 +24,7 @@ use Rattle.sw_machine.specs.Packets.{Packet}
 use Rattle.sw_machine.specs.Runs.{CameOut, Run}
 use Rattle.sw_machine.specs.State.{State, empty}
 use Rattle.sw_machine.specs.Steps.{Accept, Arrive, Begin, Drop, Emit, Fct, FctIn, Forward, Grant, Leads, Reply, Spill, Step}
-use Rattle.sw_net.specs.Unanswered.{AllowedIsWithin, AreFewBegun, AreSent, CountedAtFirst, CountedWithEachStep, Counts, CountsAreUnanswered, CountsUnanswered, allows, counted_with, has_room, limited_target, one_more_at, target_with_limit, with_begun, with_sent}
+use Rattle.sw_net.specs.Unanswered.{AllowedIsWithin, AreFewBegun, AreSent, CountedAtFirst, CountedWithEachStep, Counts, CountsAreUnanswered, CountsUnanswered, allows, counted_with, has_room, limited_target, one_more_at, owed_with_limit, target_with_limit, with_begun, with_sent}
 
 -- ---- one more
 
@@ -102,7 +101,7 @@ counted_at_first d =
       all_sent = length-replicate k 0;
       few = λ n. (let z = none_of k n in omega (arith, z));
       begun = λ n limit is. none_of k n;
-      sent = λ n came lt out.
+      sent = λ n limit came is out.
           let none = (cuts_are_equal [] came [] out.0 [] out.1 refl).0 in
           record {
             all = 0;
@@ -127,9 +126,9 @@ less_sent most begun all count few is = ⊎_elim
     below all most less = omega (arith, less)
 
 pub counts_are_unanswered : CountsAreUnanswered
-counts_are_unanswered d steps s c counts few n limit came is lt out =
+counts_are_unanswered d steps s c counts few n limit came is out =
     let begun = counts.begun n limit is in
-    let sent = counts.sent n came lt out in
+    let sent = counts.sent n limit came is out in
     let most = counts.few n in
     let total = sent.total in
     let less = less_sent (2 ^ 64 - 1) (get_or c.begun n 0) sent.all (get_or c.sent n 0) (at_most (2 ^ 64 - 1) most few) sent.counted in
@@ -298,26 +297,31 @@ module _ (d : Declaration) (valid : IsValid d) where
         none_more : (k j : ℕ) → j ≡ 0 → k ≡ k + j
         none_more k j z = omega (arith, z)
 
-    -- what was sent grows by one where less is owed than before
-    sent_more : (step : Step) → Leads (network_of d) s step t → (n all : ℕ) → n < length c.sent → get_or c.sent n 0 ≡ min all (2 ^ 64 - 1)
+    -- a node with a limit owes less than before, by what is looked at
+    owes_less : (n limit : ℕ) → limit_at d n ≡ Some limit → nat_lt (owed_with_limit d t n) (owed_with_limit d s n) ≡ nat_lt (t.owed n) (s.owed n)
+    owes_less n limit is = rw is refl
+
+    -- what was sent of such a node grows by one where it owes less than before
+    sent_more : (step : Step) → Leads (network_of d) s step t → (n limit all : ℕ) → limit_at d n ≡ Some limit → n < length c.sent → get_or c.sent n 0 ≡ min all (2 ^ 64 - 1)
         → get_or (counted_with d c step s t).sent n 0 ≡ min (all + one_sent (s.owed n) (t.owed n)) (2 ^ 64 - 1)
-    sent_more (Begin flow cargo end) leads n all lt is = ap (λ l. get_or l n 0) (begun_keeps c (limited_target d flow)) ∙ as_before (Begin flow cargo end) leads n all is (λ e. cc)
-    sent_more (Emit m) leads n all lt is = ⊎_elim
-        (λ same. subst (λ k. get_or (counted_with d c (Emit k) s t).sent n 0 ≡ min (all + one_sent (s.owed n) (t.owed n)) (2 ^ 64 - 1)) same (sent_here c n all (nat_lt (t.owed n) (s.owed n)) lt is))
-        (λ ne. sent_elsewhere c m (nat_lt (t.owed m) (s.owed m)) n ne ∙ as_before (Emit m) leads n all is (λ e. ne (same_node e)))
+    sent_more (Begin flow cargo end) leads n limit all has lt is = ap (λ l. get_or l n 0) (begun_keeps c (limited_target d flow)) ∙ as_before (Begin flow cargo end) leads n all is (λ e. cc)
+    sent_more (Emit m) leads n limit all has lt is = ⊎_elim
+        (λ same. subst (λ k. get_or (counted_with d c (Emit k) s t).sent n 0 ≡ min (all + one_sent (s.owed n) (t.owed n)) (2 ^ 64 - 1)) same
+        (ap (λ b. get_or (if b then with_sent c n else c).sent n 0) (owes_less n limit has) ∙ sent_here c n all (nat_lt (t.owed n) (s.owed n)) lt is))
+        (λ ne. sent_elsewhere c m (nat_lt (owed_with_limit d t m) (owed_with_limit d s m)) n ne ∙ as_before (Emit m) leads n all is (λ e. ne (same_node e)))
         (cases_eq n m)
       where
         same_node : Emit m ≡ Emit n → n ≡ m
         same_node e = cc
-    sent_more (Fct k) leads n all lt is = as_before (Fct k) leads n all is (λ e. cc)
-    sent_more (FctIn k) leads n all lt is = as_before (FctIn k) leads n all is (λ e. cc)
-    sent_more (Arrive k) leads n all lt is = as_before (Arrive k) leads n all is (λ e. cc)
-    sent_more (Grant o i) leads n all lt is = as_before (Grant o i) leads n all is (λ e. cc)
-    sent_more (Drop k) leads n all lt is = as_before (Drop k) leads n all is (λ e. cc)
-    sent_more (Forward k) leads n all lt is = as_before (Forward k) leads n all is (λ e. cc)
-    sent_more (Spill k) leads n all lt is = as_before (Spill k) leads n all is (λ e. cc)
-    sent_more (Accept m) leads n all lt is = as_before (Accept m) leads n all is (λ e. cc)
-    sent_more (Reply m) leads n all lt is = as_before (Reply m) leads n all is (λ e. cc)
+    sent_more (Fct k) leads n limit all has lt is = as_before (Fct k) leads n all is (λ e. cc)
+    sent_more (FctIn k) leads n limit all has lt is = as_before (FctIn k) leads n all is (λ e. cc)
+    sent_more (Arrive k) leads n limit all has lt is = as_before (Arrive k) leads n all is (λ e. cc)
+    sent_more (Grant o i) leads n limit all has lt is = as_before (Grant o i) leads n all is (λ e. cc)
+    sent_more (Drop k) leads n limit all has lt is = as_before (Drop k) leads n all is (λ e. cc)
+    sent_more (Forward k) leads n limit all has lt is = as_before (Forward k) leads n all is (λ e. cc)
+    sent_more (Spill k) leads n limit all has lt is = as_before (Spill k) leads n all is (λ e. cc)
+    sent_more (Accept m) leads n limit all has lt is = as_before (Accept m) leads n all is (λ e. cc)
+    sent_more (Reply m) leads n limit all has lt is = as_before (Reply m) leads n all is (λ e. cc)
 
   -- ---- each step
 
@@ -332,18 +336,19 @@ module _ (d : Declaration) (valid : IsValid d) where
     longer : (step : Step) → length (beginnings (steps ++ step ∷ [])) ≡ length (beginnings steps) + length (beginning step)
     longer step = ap (λ l. length l) (beginnings_push steps step) ∙ length-append (beginnings steps) (beginning step)
 
-    sent_then : (step : Step) (t : State) → Leads (network_of d) s step t → (n : ℕ) (now : List Packet) → n < length d.nodes → CameOut t n now
+    sent_then : (step : Step) (t : State) → Leads (network_of d) s step t → (n limit : ℕ) (now : List Packet) → limit_at d n ≡ Some limit → CameOut t n now
         → AreSent (get_or (counted_with d c step s t).sent n 0) (t.owed n) (count_by (is_command_at (network_of d) n) now)
-    sent_then step t leads n now lt out =
+    sent_then step t leads n limit now has out =
         let cut = cut_of (s.taken n) in
         let came : CameOut s n cut.0 = (cut.1, cut.2) in
-        let before = counts.sent n cut.0 lt came in
+        let lt : n < length d.nodes = limit_within d valid n limit has in
+        let before = counts.sent n limit cut.0 has came in
         let moved = replies_sent (network_of d) ok steps s run step t leads n (in_net n lt) cut.0 now came out in
         let size = counts.all_sent in
         record {
           all = before.all + one_sent (s.owed n) (t.owed n);
           total = numbers (one_sent (s.owed n) (t.owed n)) (t.owed n) _ (s.owed n) _ before.all before.total moved;
-          counted = sent_more c s t step leads n before.all (omega (arith, size, lt)) before.counted;
+          counted = sent_more c s t step leads n limit before.all has (omega (arith, size, lt)) before.counted;
         }
       where
         numbers : (one owed came was now all : ℕ) → was + all ≡ came → (one + owed) + came ≡ was + now → owed + (all + one) ≡ now
@@ -356,7 +361,7 @@ module _ (d : Declaration) (valid : IsValid d) where
       all_sent = size ∙ counts.all_sent;
       few = λ n. (let was = counts.few n in let is_same = ap (λ l. get_or l n 0) same in let long = longer step in omega (arith, was, is_same, long));
       begun = λ n limit at. ap (λ l. get_or l n 0) same ∙ counts.begun n limit at ∙ sym (beginnings_same steps step none n);
-      sent = λ n now lt out. subst (λ (x : Counts). AreSent (get_or x.sent n 0) (t.owed n) (count_by (is_command_at (network_of d) n) now)) (sym is) (sent_then step t leads n now lt out);
+      sent = λ n limit now at out. subst (λ (x : Counts). AreSent (get_or x.sent n 0) (t.owed n) (count_by (is_command_at (network_of d) n) now)) (sym is) (sent_then step t leads n limit now at out);
     }
 
     same_counts : (step : Step) (t : State) → Leads (network_of d) s step t → beginning step ≡ [] → c ≡ counted_with d c step s t → CountsUnanswered d (steps ++ step ∷ []) t c
@@ -374,13 +379,13 @@ module _ (d : Declaration) (valid : IsValid d) where
           counted_more flow cargo end leads.declared entry.0 entry.1 n limit at c counts.all_begun lt (omega (arith, small, few))
           ∙ ap (λ k. k + (if is_answered_at n entry.0 then 1 else 0)) (counts.begun n limit at)
           ∙ sym (commands_more flow cargo end leads.declared entry.0 entry.1 n limit at steps);
-      sent = λ n now lt out. sent_then (Begin flow cargo end) t leads n now lt out;
+      sent = λ n limit now at out. sent_then (Begin flow cargo end) t leads n limit now at out;
     }
 
     pub counted : (step : Step) (t : State) → Leads (network_of d) s step t → CountsUnanswered d (steps ++ step ∷ []) t (counted_with d c step s t)
     counted (Begin flow cargo end) t leads = begins flow cargo end t leads
     counted (Emit m) t leads =
-        moved (Emit m) t leads refl (counted_with d c (Emit m) s t) refl (sent_keeps c m (nat_lt (t.owed m) (s.owed m))) (sent_size c m (nat_lt (t.owed m) (s.owed m)))
+        moved (Emit m) t leads refl (counted_with d c (Emit m) s t) refl (sent_keeps c m (nat_lt (owed_with_limit d t m) (owed_with_limit d s m))) (sent_size c m (nat_lt (owed_with_limit d t m) (owed_with_limit d s m)))
     counted (Fct k) t leads = same_counts (Fct k) t leads refl refl
     counted (FctIn k) t leads = same_counts (FctIn k) t leads refl refl
     counted (Arrive k) t leads = same_counts (Arrive k) t leads refl refl
@@ -412,7 +417,7 @@ module _ (d : Declaration) (valid : IsValid d) where
           → unanswered (network_of d) there (steps ++ Begin flow cargo end ∷ []) came s ≡ (get_or c.begun there 0 + (if is_answered_at there f then 1 else 0)) - get_or c.sent there 0
       then_unanswered f has limit is came out =
           let begun = counts.begun there limit is in
-          let sent = counts.sent there came to_node out in
+          let sent = counts.sent there limit came is out in
           let more = commands_more flow cargo end declared f has there limit is steps in
           let few_begun = counts.few there in
           let less = less_sent (2 ^ 64 - 1) (get_or c.begun there 0 + (if is_answered_at there f then 1 else 0)) sent.all (get_or c.sent there 0) (one_or_none (is_answered_at there f) few_begun few) sent.counted in
@@ -425,27 +430,17 @@ module _ (d : Declaration) (valid : IsValid d) where
           numbers : (begun to later one owed all at : ℕ) → begun ≡ to → later ≡ to + one → owed + all ≡ at → (later + owed) - at ≡ (begun + one) - all
           numbers begun to later one owed all at is more total = omega (arith, is, more, total)
 
-      enough : (t : Bool) (begun sent limit : ℕ) → (t ≡ false → begun - sent ≤ limit) → ((if t then nat_lt begun sent || nat_lt (begun - sent) limit else true) ≡ true) → (begun + (if t then 1 else 0)) - sent ≤ limit
+      enough : (t : Bool) (begun sent limit : ℕ) → (t ≡ false → begun - sent ≤ limit) → ((if t then nat_lt (begun - sent) limit else true) ≡ true) → (begun + (if t then 1 else 0)) - sent ≤ limit
       enough false begun sent limit before allowed = let was = before refl in omega (arith, was)
-      enough true begun sent limit before allowed = ⊎_elim
-          (λ ahead. omega (arith, ahead))
-          (λ not_ahead. let less = ltb-true (begun - sent) limit (or_second (nat_lt begun sent) (nat_lt (begun - sent) limit) (le-ltb begun sent not_ahead) allowed) in omega (arith, less, not_ahead))
-          (cases_lt begun sent)
-        where
-          or_second : (a b : Bool) → a ≡ false → (a || b) ≡ true → b ≡ true
-          or_second true b no_a both = absurd cc
-          or_second false b no_a both = both
+      enough true begun sent limit before allowed = let less = ltb-true (begun - sent) limit allowed in omega (arith, less)
 
-      room : (t : Bool) (begun sent limit : ℕ) → (begun + (if t then 1 else 0)) - sent ≤ limit → (if t then nat_lt begun sent || nat_lt (begun - sent) limit else true) ≡ true
-      room false begun sent limit within = refl
-      room true begun sent limit within = ⊎_elim
-          (λ ahead. rw (lt-ltb begun sent ahead) refl)
-          (λ not_ahead. let less : begun - sent < limit = omega (arith, within, not_ahead) in rw (le-ltb begun sent not_ahead, lt-ltb (begun - sent) limit less) refl)
-          (cases_lt begun sent)
+      room : (t : Bool) (begun sent limit : ℕ) → 1 ≤ limit → (begun + (if t then 1 else 0)) - sent ≤ limit → (if t then nat_lt (begun - sent) limit else true) ≡ true
+      room false begun sent limit some within = refl
+      room true begun sent limit some within = lt-ltb (begun - sent) limit (omega (arith, some, within))
 
       -- the test, where the flow's end has a limit
       allows_is : (f : FlowEntry) → Has flow f → (limit : ℕ) → limit_at d there ≡ Some limit
-          → allows d c flow ≡ (if is_answered_at there f then nat_lt (get_or c.begun there 0) (get_or c.sent there 0) || nat_lt (get_or c.begun there 0 - get_or c.sent there 0) limit else true)
+          → allows d c flow ≡ (if is_answered_at there f then nat_lt (get_or c.begun there 0 - get_or c.sent there 0) limit else true)
       allows_is f has limit is =
           let to = to_is flow f has in
           let limit_there : limit_at d f.to ≡ Some limit = ap (limit_at d) (sym to) ∙ is in
@@ -453,8 +448,8 @@ module _ (d : Declaration) (valid : IsValid d) where
         where
           by : there ≡ f.to → (t : Bool)
               → option_map_or (λ n. has_room c n (limit_at d n)) (if t && true then Some f.to else None) true
-              ≡ (if t && true then nat_lt (get_or c.begun there 0) (get_or c.sent there 0) || nat_lt (get_or c.begun there 0 - get_or c.sent there 0) limit else true)
-          by to true = subst (λ m. has_room c m (limit_at d m) ≡ (nat_lt (get_or c.begun there 0) (get_or c.sent there 0) || nat_lt (get_or c.begun there 0 - get_or c.sent there 0) limit)) to (rw is refl)
+              ≡ (if t && true then nat_lt (get_or c.begun there 0 - get_or c.sent there 0) limit else true)
+          by to true = subst (λ m. has_room c m (limit_at d m) ≡ nat_lt (get_or c.begun there 0 - get_or c.sent there 0) limit) to (rw is refl)
           by to false = refl
 
       allows_free : (f : FlowEntry) → Has flow f → limit_at d there ≡ None → allows d c flow ≡ true
@@ -472,7 +467,7 @@ module _ (d : Declaration) (valid : IsValid d) where
           let cut = cut_of (s.taken there) in
           let came : CameOut s there cut.0 = (cut.1, cut.2) in
           let kept = kept_after_each_step (network_of d) ok steps s run keeps there (in_net there to_node) limit cut.0 (limit_is there ∙ is) came in
-          let same = counts_are_unanswered d steps s c counts few there limit cut.0 is to_node came in
+          let same = counts_are_unanswered d steps s c counts few there limit cut.0 is came in
           omega (arith, kept, same)
 
       pub allowed_is_within : allows d c flow ≡ true ↔ IsWithinLimit (network_of d) (steps ++ Begin flow cargo end ∷ []) s there
@@ -501,7 +496,8 @@ module _ (d : Declaration) (valid : IsValid d) where
                   let came : CameOut s there cut.0 = (cut.1, cut.2) in
                   let few = within limit cut.0 (limit_is there ∙ at) came in
                   let now = then_unanswered f entry.1 limit at cut.0 came in
-                  allows_is f entry.1 limit at ∙ room (is_answered_at there f) (get_or c.begun there 0) (get_or c.sent there 0) limit (omega (arith, few, now))
+                  let some = limit_at_least d valid there limit at in
+                  allows_is f entry.1 limit at ∙ room (is_answered_at there f) (get_or c.begun there 0) (get_or c.sent there 0) limit some (omega (arith, few, now))
 
 pub counted_with_each_step : CountedWithEachStep
 counted_with_each_step d valid steps s c run counts few step t leads = counted d valid steps s c run counts few step t leads

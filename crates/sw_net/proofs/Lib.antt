@@ -14,6 +14,7 @@ pub mod Parts
 pub mod Making
 mod ChangedNumbers
 pub mod CountedCommands
+pub mod CountedSteps
 pub mod Undeclared
 pub use Rattle.sw_cell.proofs.Network as CellNetwork
 pub mod Alike

@@ -1,6 +1,7 @@
 -- How many commands are unanswered at each node that has a limit, by what is counted as steps are made.
-use Rattle.std.specs.Prelude.{Bool, List, None, Option, Some, [], count_by, if◌then◌else◌, get_or, is_some, length, min, nat_lt, option_and_then, replicate, set, slice_get, true, ℕ, ◌&&◌, ◌++◌, ◌+◌, ◌-◌, ◌<◌, ◌^◌, ◌||◌, ◌∷◌, ◌↔◌, ◌≡◌, ◌≤◌}
+use Rattle.std.specs.Prelude.{Bool, Err, List, None, Ok, Option, Result, Some, [], count_by, if◌then◌else◌, get_or, is_some, length, min, nat_lt, option_and_then, replicate, set, slice_get, true, ℕ, ◌&&◌, ◌++◌, ◌+◌, ◌-◌, ◌<◌, ◌^◌, ◌∷◌, ◌↔◌, ◌≡◌, ◌≤◌}
 use Rattle.std.specs.Option.{option_map_or}
+use Rattle.std.specs.declared.alloc.AllocError.{AllocError}
 use Rattle.sw_config.specs.Entries.{Declaration, FlowEntry, all_flows}
 use Rattle.sw_char.specs.declared.nchar.End.{End}
 use Rattle.sw_config.specs.Limits.{limit_at}
@@ -10,9 +11,13 @@ use Rattle.sw_machine.specs.Limits.{IsWithinLimit, KeepsLimits, is_command_at, i
 use Rattle.sw_machine.specs.Model.{network_of}
 use Rattle.sw_machine.specs.Network.{IsDeclared}
 use Rattle.sw_machine.specs.Packets.{Packet}
+use Rattle.sw_machine.specs.Parts.{link_end_of}
 use Rattle.sw_machine.specs.Runs.{CameOut, Run}
 use Rattle.sw_machine.specs.State.{State, empty}
 use Rattle.sw_machine.specs.Steps.{Begin, Emit, Leads, Step}
+use Rattle.sw_machine.specs.StepValues.{machine_step}
+use Rattle.sw_machine.specs.declared.step.Step.{Step as CodeStep}
+use Rattle.sw_net.specs.Net.{IsNetState, NetView}
 
 -- by node, how many commands were begun for it, where it has a limit, and how many replies it has sent whole
 pub record Counts : Type 0 where
@@ -38,7 +43,7 @@ limited_target d flow = option_and_then (target_with_limit d) (slice_get (all_fl
 -- with one command more what is unanswered at node n is within the limit, if there is one
 abbrev pub has_room : Counts → ℕ → Option ℕ → Bool
 has_room c n None = true
-has_room c n (Some limit) = nat_lt (get_or c.begun n 0) (get_or c.sent n 0) || nat_lt (unanswered_at c n) limit
+has_room c n (Some limit) = nat_lt (unanswered_at c n) limit
 
 -- a packet of the flow may be begun
 abbrev pub allows : Declaration → Counts → ℕ → Bool
@@ -56,11 +61,38 @@ with_begun d c flow = option_map_or (λ n. record c { begun = one_more_at (2 ^ 6
 abbrev pub with_sent : Counts → ℕ → Counts
 with_sent c n = record c { sent = one_more_at (2 ^ 64 - 1) c.sent n }
 
+-- how many replies node n owes, if it has a limit; else 0
+abbrev pub owed_with_limit : Declaration → State → ℕ → ℕ
+owed_with_limit d s n = if is_some (limit_at d n) then s.owed n else 0
+
+-- the same of the node that puts a character on its wire by the step; 0 of any other step
+abbrev pub owed_by : Declaration → State → Step → ℕ
+owed_by d s (Emit n) = owed_with_limit d s n
+owed_by d s step = 0
+
+-- the counts after a step that leads to t, if they were these before, and that node owed so many replies
+abbrev pub counted_after : Declaration → Counts → Step → ℕ → State → Counts
+counted_after d c (Begin flow cargo end) before t = with_begun d c flow
+counted_after d c (Emit n) before t = if nat_lt (owed_with_limit d t n) before then with_sent c n else c
+counted_after d c step before t = c
+
 -- the counts after a step that leads from s to t, if they were these before
 abbrev pub counted_with : Declaration → Counts → Step → State → State → Counts
-counted_with d c (Begin flow cargo end) s t = with_begun d c flow
-counted_with d c (Emit n) s t = if nat_lt (t.owed n) (s.owed n) then with_sent c n else c
-counted_with d c step s t = c
+counted_with d c step s t = counted_after d c step (owed_by d s step) t
+
+-- so it is of a step of the network
+abbrev pub HasCounted : {R A : Type 0} → NetView R A → Counts → Step → NetView R A → Counts → Type 0
+HasCounted v c step w e = (s t : State) → IsNetState v s → IsNetState w t → e ≡ counted_with v.declared c step s t
+
+-- Some: so it is of this step, which was made; where none was, no count has changed
+abbrev pub HasCountedMove : {R A : Type 0} → NetView R A → Counts → Result (Option CodeStep) AllocError → NetView R A → Counts → Type 0
+HasCountedMove v c (Ok (Some step)) w e = HasCounted v c (machine_step step) w e
+HasCountedMove v c (Ok None) w e = e ≡ c
+HasCountedMove v c (Err error) w e = e ≡ c
+
+-- so many replies owes the node that puts a character on its wire by the link end where channel e starts, if it has a limit
+abbrev pub OwedAt : {R A : Type 0} → NetView R A → ℕ → ℕ → Type 0
+OwedAt v e before = (n : ℕ) → n < length v.declared.nodes → link_end_of (network_of v.declared) (Emit n) ≡ e → (s : State) → IsNetState v s → before ≡ owed_with_limit v.declared s n
 
 -- ---- what the counts say
 
@@ -70,14 +102,14 @@ pub record AreSent (count owed commands : ℕ) : Type 0 where
   pub total : owed + all ≡ commands
   pub counted : count ≡ min all (2 ^ 64 - 1)
 
--- The counts are those of these steps, which lead from the empty state to s: the commands that were begun for each node with a limit, and
--- the replies that each node has sent.
+-- The counts are those of these steps, which lead from the empty state to s: for each node with a limit, the commands that were begun for it,
+-- and the replies that it has sent.
 pub record CountsUnanswered (d : Declaration) (steps : List Step) (s : State) (c : Counts) : Type 0 where
   pub all_begun : length c.begun ≡ length d.nodes
   pub all_sent : length c.sent ≡ length d.nodes
   pub few : (n : ℕ) → get_or c.begun n 0 ≤ length (beginnings steps)
   pub begun : (n limit : ℕ) → limit_at d n ≡ Some limit → get_or c.begun n 0 ≡ count_by (is_command_to (network_of d) n) (beginnings steps)
-  pub sent : (n : ℕ) (came : List Packet) → n < length d.nodes → CameOut s n came → AreSent (get_or c.sent n 0) (s.owed n) (count_by (is_command_at (network_of d) n) came)
+  pub sent : (n limit : ℕ) (came : List Packet) → limit_at d n ≡ Some limit → CameOut s n came → AreSent (get_or c.sent n 0) (s.owed n) (count_by (is_command_at (network_of d) n) came)
 
 -- fewer packets were begun than can be counted
 abbrev pub AreFewBegun : List Step → Type 0
@@ -87,7 +119,7 @@ AreFewBegun steps = length (beginnings steps) < 2 ^ 64 - 1
 abbrev pub CountsAreUnanswered : Type 0
 CountsAreUnanswered =
     (d : Declaration) (steps : List Step) (s : State) (c : Counts) → CountsUnanswered d steps s c → AreFewBegun steps
-    → (n limit : ℕ) (came : List Packet) → limit_at d n ≡ Some limit → n < length d.nodes → CameOut s n came → unanswered_at c n ≡ unanswered (network_of d) n steps came s
+    → (n limit : ℕ) (came : List Packet) → limit_at d n ≡ Some limit → CameOut s n came → unanswered_at c n ≡ unanswered (network_of d) n steps came s
 
 -- so they are at first
 abbrev pub CountedAtFirst : Type 0

@@ -5,6 +5,7 @@ mod asked;
 mod asking;
 mod changing;
 mod choice;
+mod counted_steps;
 mod declared;
 mod delivery;
 mod make;

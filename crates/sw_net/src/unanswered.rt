@@ -1,13 +1,14 @@
 //! How many commands are unanswered at each node that has a limit.
-ghost use Rattle.std.specs.Prelude.{◌≡◌, ◌-◌, ◌^◌, IfOk, Some, get_or, length};
+ghost use Rattle.std.specs.Prelude.{◌≡◌, ◌-◌, ◌^◌, IfOk, get_or, length};
 ghost use Rattle.sw_net.specs.Unanswered.{AllowedIsWithin, CountedAtFirst, CountedWithEachStep, CountsAreUnanswered, limited_target, one_more_at};
 
 use std::alloc::{AllocError, Global};
 use std::marker::Model;
 use sw_config::Network;
 
-/// How many commands are unanswered at each node that has a limit on them, as long as each beginning of a packet and each reply that was
-/// sent whole are told: by node, the commands that were begun for it, and the replies that it has sent.
+/// How many commands are unanswered at each node that has a limit on them, as long as each step is made by this: by node, the commands
+/// that were begun for it, and the replies that it has sent whole. What is unanswered is the difference: a packet that went astray may
+/// ask a node for a reply too, so a count of what is unanswered alone would not tell it in a network that is misrouted.
 #[derive(Drop)]
 pub struct Unanswered {
     begun: Vec<u64>,
@@ -23,6 +24,7 @@ impl Model for Unanswered {
 }
 
 /// The node where the flow's packets are answered, if it has a limit.
+#[inline(always)]
 fn limited_target(network: &Network, flow: u16) -> Option<u16>
     ensures { result ≡ limited_target network.now flow }
 {
@@ -38,6 +40,7 @@ fn limited_target(network: &Network, flow: u16) -> Option<u16>
 }
 
 /// How many are counted of the node.
+#[inline(always)]
 fn count_at(counts: &[u64], node: u16) -> u64
     ensures { result ≡ get_or counts.now node 0 }
 {
@@ -48,6 +51,7 @@ fn count_at(counts: &[u64], node: u16) -> u64
 }
 
 /// Counts one more of the node.
+#[inline(always)]
 fn count_one(counts: &mut [u64], node: u16)
     ensures { counts.new ≡ one_more_at (2 ^ 64 - 1) counts.old node }
 {
@@ -58,7 +62,7 @@ fn count_one(counts: &mut [u64], node: u16)
 }
 
 impl Unanswered {
-    ghost use Rattle.sw_net.specs.Unanswered.{allows, has_room, nothing_counted, unanswered_at, with_begun, with_sent};
+    ghost use Rattle.sw_net.specs.Unanswered.{allows, nothing_counted, unanswered_at, with_begun, with_sent};
 
     /// None at each node of the network.
     ///
@@ -76,20 +80,15 @@ impl Unanswered {
     }
 
     /// How many commands are unanswered at the node: 0 where it has no limit.
+    #[inline(always)]
     pub fn at(&self, node: u16) -> u64
         ensures { result ≡ unanswered_at self.now node }
     {
         count_at(&self.begun, node).saturating_sub(count_at(&self.sent, node))
     }
 
-    /// Is what is unanswered at the node within the limit with one command more?
-    fn has_room(&self, node: u16, limit: u64) -> bool
-        ensures { result ≡ has_room self.now node (Some limit) }
-    {
-        count_at(&self.begun, node) < count_at(&self.sent, node) || self.at(node) < limit
-    }
-
     /// May a packet of the flow be begun? Where the node at its end answers it, and has a limit, one command more has to be within that.
+    #[inline(always)]
     pub fn allows(&self, network: &Network, flow: u16) -> bool
         ensures { result ≡ allows network.now self.now flow }
     {
@@ -97,13 +96,14 @@ impl Unanswered {
             return true;
         };
         match network.limit_at(node) {
-            Some(limit) => self.has_room(node, u64::from(limit)),
+            Some(limit) => self.at(node) < u64::from(limit),
             None => true,
         }
     }
 
     /// Counts a packet of the flow that was begun.
-    pub fn begin(&mut self, network: &Network, flow: u16)
+    #[inline(always)]
+    pub(crate) fn begin(&mut self, network: &Network, flow: u16)
         ensures { self.new ≡ with_begun network.now self.old flow }
     {
         if let Some(node) = limited_target(network, flow) {
@@ -112,7 +112,8 @@ impl Unanswered {
     }
 
     /// Counts a reply that the node has sent whole.
-    pub fn settle(&mut self, node: u16)
+    #[inline(always)]
+    pub(crate) fn settle(&mut self, node: u16)
         ensures { self.new ≡ with_sent self.old node }
     {
         count_one(&mut self.sent, node);

@@ -2,15 +2,16 @@
 use Rattle.std.proofs.Common.{Err, List, None, Ok, Result, Some, [], ap, append-nil, append_assoc, arith, length, length-append, refl, replicate, subst, sym, take, ℕ, ◌++◌, ◌+◌, ◌-◌, ◌<◌, ◌≤◌, ◌∙◌, ◌∷◌, ◌≡◌}
 use Rattle.std.proofs.lemmas.List.{length-replicate, replicate-append-replicate}
 use Rattle.std.specs.Prelude.{IfOk}
+use Rattle.sw_machine.specs.Begun.{beginning, beginnings}
 use Rattle.sw_machine.specs.Limits.{KeepsLimits}
 use Rattle.sw_machine.specs.Network.{Network}
 use Rattle.sw_machine.specs.State.{State, empty}
-use Rattle.sw_machine.specs.Steps.{Begin, Step}
+use Rattle.sw_machine.specs.Steps.{Accept, Arrive, Begin, Drop, Emit, Fct, FctIn, Forward, Grant, Reply, Spill, Step}
 use Rattle.sw_machine.specs.Model.{network_of}
 use Rattle.sw_net.proofs.CountedCommands.{counted_at_first}
 use Rattle.sw_net.specs.Net.{NetView}
 use Rattle.sw_net.specs.New.{IsNewNet}
-use Rattle.sw_net.specs.Unanswered.{Counts, CountsUnanswered, nothing_counted}
+use Rattle.sw_net.specs.Unanswered.{AreFewBegun, Counts, CountsUnanswered, nothing_counted}
 use Rattle.sw_config.specs.Entries.{Declaration}
 use Rattle.sw_config.specs.Valid.{IsValid}
 use Rattle.sw_schedule.proofs.Making.{once_more, refused_then, stopped_at, within_append, within_keeps}
@@ -29,6 +30,31 @@ again_so v w c e n m x y r count step h =
 some_more : {A : Type 0} (l : List A) (x : A) (m : List A) → l ++ x ∷ m ≡ [] → ⊥
 some_more [] x m e = cc
 some_more (y ∷ l) x m e = cc
+
+-- no more packets are begun than steps made
+one_at_most : (step : Step) → length (beginning step) ≤ 1
+one_at_most (Begin flow cargo end) = omega arith
+one_at_most (Fct c) = omega arith
+one_at_most (FctIn c) = omega arith
+one_at_most (Arrive c) = omega arith
+one_at_most (Grant o i) = omega arith
+one_at_most (Drop c) = omega arith
+one_at_most (Forward c) = omega arith
+one_at_most (Spill c) = omega arith
+one_at_most (Emit n) = omega arith
+one_at_most (Accept n) = omega arith
+one_at_most (Reply n) = omega arith
+
+few_begun : (steps : List Step) → length (beginnings steps) ≤ length steps
+few_begun [] = omega arith
+few_begun (step ∷ steps) =
+    let rest = few_begun steps in
+    let one = one_at_most step in
+    let both = length-append (beginning step) (beginnings steps) in
+    omega (arith, rest, one, both)
+
+are_few : (steps : List Step) → length steps < 1000000 → AreFewBegun steps
+are_few steps few = let begun = few_begun steps in omega (arith, few, begun)
 
 -- how many steps there are
 few_with : (before steps : List Step) (n : ℕ) → length before + length steps ≤ n → length (before ++ steps) ≤ n
@@ -52,7 +78,7 @@ module _ {R A : Type 0} (v w u : NetView R A) (c e f : Counts) (same : w.declare
   pub made_again : (x : Step) (k : ℕ) → NetEnds v c (replicate k x) (Made k) w e → NetMakesOr w e x None u f → NetEnds v c (replicate (k + 1) x) (Made (k + 1)) u f
   made_again x k before makes = λ l s few is after.
       let first = before l s (fewer_before l x k (k + 1) 1000000 (omega arith) few) is after in
-      let next = makes (l ++ replicate k x) first.0 (fewer_with l x k (k + 1) 1000000 (omega arith) few) first.2 (subst (λ (d : Declaration). IsAfter d (l ++ replicate k x) first.0 e) (sym same) first.3) in
+      let next = makes (l ++ replicate k x) first.0 (are_few (l ++ replicate k x) (fewer_with l x k (k + 1) 1000000 (omega arith) few)) first.2 (subst (λ (d : Declaration). IsAfter d (l ++ replicate k x) first.0 e) (sym same) first.3) in
       let made = subst (λ (d : Declaration). MakesOr (network_of d) (l ++ replicate k x) first.0 x None next.0) same next.1 in
       let longer : (l ++ replicate k x) ++ x ∷ [] ≡ l ++ replicate (k + 1) x = append_assoc l (replicate k x) (x ∷ []) ∙ ap (λ (b : List Step). l ++ b) (replicate-append-replicate k 1 x) in
       let then_after = subst (λ (d : Declaration). IsAfter d (l ++ replicate (k + 1) x) next.0 f) same (subst (λ b. IsAfter w.declared b next.0 f) longer next.3) in
@@ -62,7 +88,7 @@ module _ {R A : Type 0} (v w u : NetView R A) (c e f : Counts) (same : w.declare
   pub refused_again : (x : Step) (k n : ℕ) (r : StepRefusal) → k < n → NetEnds v c (replicate k x) (Made k) w e → NetMakesOr w e x (Some r) u f → NetEnds v c (replicate n x) (Refused (k + 1) r) u f
   refused_again x k n r lt before makes = λ l s few is after.
       let first = before l s (fewer_before l x k n 1000000 (omega arith) few) is after in
-      let next = makes (l ++ replicate k x) first.0 (fewer_with l x k n 1000000 lt few) first.2 (subst (λ (d : Declaration). IsAfter d (l ++ replicate k x) first.0 e) (sym same) first.3) in
+      let next = makes (l ++ replicate k x) first.0 (are_few (l ++ replicate k x) (fewer_with l x k n 1000000 lt few)) first.2 (subst (λ (d : Declaration). IsAfter d (l ++ replicate k x) first.0 e) (sym same) first.3) in
       let refused = subst (λ (d : Declaration). MakesOr (network_of d) (l ++ replicate k x) first.0 x (Some r) next.0) same next.1 in
       (next.0, refused_then (network_of v.declared) l s first.0 next.0 x k n r lt (first.1).1 refused, next.2, tt)
 

@@ -1,17 +1,18 @@
 -- Steps that a network's cells make, and what is told of them: it holds of each state that the cells are the parts of.
-use Rattle.std.specs.Prelude.{◌≡◌, ◌≤◌, ◌<◌, ◌↔◌, ◌+◌, ◌++◌, ◌∷◌, ℕ, Bool, Err, IsTrue, List, [], None, Ok, Option, Result, Some, if◌then◌else◌, length, nat_lt}
+use Rattle.std.specs.Prelude.{◌≡◌, ◌⊎◌, ◌≤◌, ◌↔◌, ◌+◌, ◌++◌, ◌∷◌, ℕ, Bool, Err, IsTrue, List, [], None, Ok, Option, Result, Some, false, length, true}
 use Rattle.sw_config.specs.Entries.{Declaration}
 use Rattle.sw_config.specs.Valid.{IsValid}
 use Rattle.sw_machine.specs.Limits.{KeepsLimits}
 use Rattle.sw_machine.specs.Packets.{Packet}
 use Rattle.sw_machine.specs.Runs.{IsLockedUp, Run}
 use Rattle.sw_machine.specs.State.{State, empty}
-use Rattle.sw_machine.specs.Steps.{Begin, Emit, Step}
+use Rattle.sw_machine.specs.Steps.{Begin, Step}
 use Rattle.sw_machine.specs.Model.{network_of}
 use Rattle.sw_net.specs.Net.{IsNetState, NetView}
 use Rattle.sw_net.specs.NetFault.{NetFault}
 use Rattle.sw_net.specs.NetFault.TheVariants as fault
-use Rattle.sw_net.specs.Unanswered.{Counts, CountsUnanswered, with_begun, with_sent}
+use Rattle.sw_net.specs.Possible.{Tells}
+use Rattle.sw_net.specs.Unanswered.{AreFewBegun, Counts, CountsUnanswered, allows}
 use Rattle.sw_schedule.specs.declared.replayed.ReplayEnd.{ReplayEnd}
 use Rattle.sw_schedule.specs.declared.replayed.ReplayEnd.TheVariants.{Made, Refused}
 use Rattle.sw_schedule.specs.declared.replayed.StepRefusal.{StepRefusal}
@@ -31,10 +32,11 @@ abbrev pub made_with : List Step → Step → Option StepRefusal → List Step
 made_with before step None = before ++ step ∷ []
 made_with before step (Some refusal) = before
 
--- behind fewer than 1,000,000 steps, from each state of the first the step leads to one of the second, or it is refused, and nothing changed
+-- behind steps that begin fewer packets than can be counted, from each state of the first the step leads to one of the second, or it is
+-- refused, and nothing changed
 abbrev pub NetMakesOr : {R A : Type 0} → NetView R A → Counts → Step → Option StepRefusal → NetView R A → Counts → Type 0
 NetMakesOr v c step refusal w e =
-    (before : List Step) (s : State) → length before < 1000000 → IsNetState v s → IsAfter v.declared before s c
+    (before : List Step) (s : State) → AreFewBegun before → IsNetState v s → IsAfter v.declared before s c
     → (t : State) × MakesOr (network_of v.declared) before s step refusal t × IsNetState w t × IsAfter v.declared (made_with before step refusal) t e
 
 -- what is so behind all the steps, if they were made
@@ -71,15 +73,15 @@ IsTrueOfNet v r = (s : State) → IsNetState v s → IsTrueOf (network_of v.decl
 
 -- ---- one step
 
--- the flow whose packet the step begins, if it begins one
-abbrev pub begun_flow : Step → Option ℕ
-begun_flow (Begin flow cargo end) = Some flow
-begun_flow step = None
+-- the counts allow the packet that the step begins, if it begins one
+abbrev pub allows_step : Declaration → Counts → Step → Bool
+allows_step d c (Begin flow cargo end) = allows d c flow
+allows_step d c step = true
 
--- the node that puts a character on its wire, if the step is that
-abbrev pub emitting_node : Step → Option ℕ
-emitting_node (Emit n) = Some n
-emitting_node step = None
+-- true: the step is possible, and begins a packet that the counts don't allow; false: they allow what it begins, or it is not possible
+abbrev pub TellsOverLimit : {R A : Type 0} → NetView R A → Counts → Step → Bool → Type 0
+TellsOverLimit v c step true = (allows_step v.declared c step ≡ false) × Tells v step true
+TellsOverLimit v c step false = (allows_step v.declared c step ≡ true) ⊎ Tells v step false
 
 -- why the step is refused, if the answer of the network is that; not where memory was wanting
 abbrev pub TellsWhy : Result Unit NetFault → Option StepRefusal → Type 0
@@ -87,16 +89,3 @@ TellsWhy (Ok done) refusal = refusal ≡ None
 TellsWhy (Err fault.NotEnabled) refusal = refusal ≡ Some NotEnabled
 TellsWhy (Err fault.NotInFlow) refusal = refusal ≡ Some NotInFlow
 TellsWhy (Err fault.Memory) refusal = ⊥
-
--- how many replies the node owes; 0 where there is no such node
-abbrev pub OwedAt : {R A : Type 0} → NetView R A → ℕ → ℕ → Type 0
-OwedAt v n count = (s : State) → IsNetState v s → (n < length v.declared.nodes → count ≡ s.owed n) × (length v.declared.nodes ≤ n → count ≡ 0)
-
--- the counts where a packet of the flow was begun, unless that was refused
-abbrev pub with_begun_unless : Declaration → Counts → ℕ → Option StepRefusal → Counts
-with_begun_unless d c flow None = with_begun d c flow
-with_begun_unless d c flow (Some refusal) = c
-
--- the counts where the node owed so many replies before a step, and so many after it
-abbrev pub with_sent_if : Counts → ℕ → ℕ → ℕ → Counts
-with_sent_if c n before after = if nat_lt after before then with_sent c n else c

@@ -1,13 +1,12 @@
 use Rattle.std.proofs.Common.{Bor, Some, ap, arith, refl, subst, sym, ◌∙◌, ◌≤◌}
 use Rattle.std.proofs.lemmas.Option.{slice_get-get_or}
 use Rattle.std.specs.Prelude.{slice_get, slice_index}
-use Rattle.sw_config.specs.Entries.{Declaration}
 use Rattle.sw_history.proofs.Begun.{declared_at, few_packets}
 use Rattle.sw_history.proofs.Ready.{read_ready}
 use Rattle.sw_history.proofs.Way.{begun_on}
 use Rattle.sw_history.proofs.Within.{passes, some_within}
 use Rattle.sw_history.proofs.begin.begin_one.Goals as goal
-use Rattle.sw_history.specs.Unanswered.{command_to, commanded, counted_at, within_limit}
+use Rattle.sw_history.specs.Noted.{within_limit}
 use Rattle.sw_load.specs.History.{packet_of, packets_at, packets_of}
 use Rattle.sw_load.specs.Load.{packet_count}
 use Rattle.sw_load.specs.declared.load.LoadPacket.{LoadPacket}
@@ -59,5 +58,5 @@ returns-clause-begins g c steps count way =
     let inside = ap (λ j. within_limit d counts (slice_get (packets_at (network_of d) node (packets_of load)) j)) (sym (way.counted node k at)) ∙ room in
     let is = some_within d valid load c.requires.packets total steps way.state way.history counts way.unanswered node b inside in
     let made = c.in_ok-begin_packet-in-Some-within_limit.ensures.made in
-    let counting = c.counting_of_flow-counting.ensures.counting ∙ ap (λ (e : Declaration). command_to (commanded e c.flow.result)) c.network-in-Some-within_limit.ensures.network ∙ ap (λ f. command_to (commanded d f)) c.flow.ensures in
-    begun_on load v c.begin_packet.new.net c.begin_packet.ensures.network valid c.requires.packets begun counts c.count.new.self node k b at here.from made (λ t state. c.count.ensures t state ∙ ap (counted_at t counts) counting) steps count way is.0 is.1
+    let counted = c.in_ok-begin_packet-in-Some-within_limit.ensures.counted in
+    begun_on load v c.begin_packet.new.net c.begin_packet.ensures.network valid total begun counts c.begin_packet.new.unanswered node k b at here.from made counted steps count way is.0 is.1

@@ -4,7 +4,6 @@ use Rattle.std.specs.Prelude.{slice_get, slice_index}
 use Rattle.sw_config.specs.Entries.{Declaration}
 use Rattle.sw_history.proofs.Ready.{below_end, not_ready, read_ready, ready_if}
 use Rattle.sw_history.proofs.begin.find_ready.Goals as goal
-use Rattle.sw_history.specs.Unanswered.{AreByNode}
 use Rattle.sw_history.specs.Way.{IsReady}
 use Rattle.sw_load.specs.History.{packet_of}
 use Rattle.sw_load.specs.declared.load.LoadPacket.{LoadPacket}
@@ -17,7 +16,6 @@ within_limit-requires g c =
     record {
       network = c.requires.network ∙ sym same;
       node = subst (λ n. c.loop-node.node < n) count c.loop-node-test.true;
-      counts = subst (λ (d : Declaration). AreByNode d c.args.unanswered.now) (sym same) c.requires.counts;
     }
 
 pub loop-node-preserved-then-not-can_begin : goal.loop-node-preserved-then-not-can_begin

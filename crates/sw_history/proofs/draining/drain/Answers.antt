@@ -6,15 +6,15 @@ use Rattle.sw_history.proofs.Turned.{no_turn}
 use Rattle.sw_history.proofs.draining.drain.Goals as goal
 use Rattle.sw_history.specs.Drained.{IsDrained, IsUnderWay}
 use Rattle.sw_history.specs.Turns.{TurnsLead}
-use Rattle.sw_history.specs.Unanswered.{no_counts}
 use Rattle.sw_load.specs.Laws.{AreDeclared}
 use Rattle.sw_load.specs.Load.{LoadEntry}
+use Rattle.sw_net.specs.Unanswered.{nothing_counted}
 
 pub returns-in_err-begun-clause-refused : goal.returns-in_err-begun-clause-refused
 returns-in_err-begun-clause-refused g c =
     let v = c.args.net.now in
     let nodes = length v.declared.nodes in
-    under_way c.args.load.now v v (replicate nodes 0) (no_counts nodes) [] 0 (new_way c.args.load.now v (replicate nodes 0) (no_counts nodes) nodes refl refl c.requires.empty refl) refl c.from_residual.result
+    under_way c.args.load.now v v (replicate nodes 0) (nothing_counted nodes) [] 0 (new_way c.args.load.now v (replicate nodes 0) (nothing_counted nodes) nodes refl refl c.requires.empty refl) refl c.from_residual.result
 
 pub returns-in_err-begun-clause-turns : goal.returns-in_err-begun-clause-turns
 returns-in_err-begun-clause-turns g c = ([], c.args.pick, no_turn c.args.load.now _ c.args.net.now c.args.pick)
@@ -40,7 +40,7 @@ send_all-sent-requires g c = record {
   packets = subst (λ (l : List LoadEntry). AreDeclared c.args.net.now.declared l) (sym c.in_ok-begun.ensures.load) c.requires.packets;
   network = c.in_ok-begun.ensures.network ∙ c.network.ensures.network;
   begun = c.as_mut_slice.ensures.value ∙ c.in_ok-begun.ensures.begun ∙ ap (λ (d : Declaration). replicate (length d.nodes) 0) c.network.ensures.network;
-  counts = c.in_ok-begun.ensures.unanswered ∙ ap (λ (d : Declaration). no_counts (length d.nodes)) c.network.ensures.network;
+  counts = c.in_ok-begun.ensures.unanswered ∙ ap (λ (d : Declaration). nothing_counted (length d.nodes)) c.network.ensures.network;
   pick = c.requires.pick;
 }
 

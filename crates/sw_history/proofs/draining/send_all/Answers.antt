@@ -1,5 +1,5 @@
 use Rattle.std.proofs.Common.{List, [], ap, length, refl, subst, sym, ◌++◌, ◌∙◌, ◌∷◌, ◌≤◌}
-use Rattle.sw_history.proofs.Loop.{few_on_the_way, finished, never_over, new_way, none_begin, one_moved, still_way, under_way}
+use Rattle.sw_history.proofs.Loop.{finished, never_over, new_way, none_begin, one_moved, under_way}
 use Rattle.sw_history.proofs.Ready.{all_counted}
 use Rattle.sw_history.proofs.Turned.{begun_turn, moved_turn, no_turn, turned}
 use Rattle.sw_history.proofs.Way.{one_longer}
@@ -57,8 +57,7 @@ loop-preserved g c =
     let same = c.begin_one.ensures.network ∙ c.loop.invariant.0 in
     let none = none_begin load v u w c.loop.begun c.begin_one.new.begun c.loop.unanswered c.begin_one.new.unanswered c.move_picked.new.unanswered steps c.loop.moves begins c.loop.invariant.3 d c.loop.invariant.0 valid c.requires.packets total cert free.within_limits in
     let all_valid = subst IsValid (sym same) valid in
-    let all_declared = subst (λ (e : Declaration). AreDeclared e load) (sym same) c.requires.packets in
-    let on = one_moved load v u w c.loop.begun c.begin_one.new.begun c.loop.unanswered c.begin_one.new.unanswered c.move_picked.new.unanswered steps c.loop.moves begins c.loop.invariant.3 (moved.0).index (moved.0).moved moved.1 c.move_picked.ensures.network all_valid all_declared in
+    let on = one_moved load v u w c.loop.begun c.begin_one.new.begun c.loop.unanswered c.begin_one.new.unanswered c.move_picked.new.unanswered steps c.loop.moves begins c.loop.invariant.3 (moved.0).index (moved.0).moved moved.1 c.move_picked.ensures.network all_valid total in
     let turns = moved_turn load (goal.F-step g) c.args.net.now c.args.pick.now u w steps c.loop.pick c.move_picked.new.pick (turned load (goal.F-step g) c.args.net.now c.args.pick.now v u steps c.loop.pick c.loop.invariant.4 begins.0) (subst (λ (k : NetView g.row.R.Denot g.row.A.Denot). NoneMayBegin load k steps) (sym begins.0) none) moved.0 in (
       c.move_picked.ensures.network ∙ same,
       steps ++ (((moved.0).moved).2).step ∷ [],
@@ -90,30 +89,10 @@ returns-then-not-branch-clause-drained g c =
 pub begin_one-requires : goal.begin_one-requires
 begin_one-requires g c =
     let load = c.args.senders.now.load in
-    let v = c.loop.net in
-    let total = subst (λ n. n ≤ 65536) (c.total-total.ensures.count ∙ ap packet_count c.load.ensures) c.total-total.ensures.few in
     record {
       packets = subst (λ (e : Declaration). AreDeclared e load) (sym c.loop.invariant.0) c.requires.packets;
       network = c.requires.network ∙ sym c.loop.invariant.0;
       nodes = (c.loop.invariant.3).all_nodes;
-      counts = ((c.loop.invariant.3).unanswered).by_node;
-      few = few_on_the_way load v c.loop.begun c.loop.unanswered c.loop.invariant.1 c.loop.moves c.loop.invariant.3 (subst IsValid (sym c.loop.invariant.0) c.network.ensures.sound.valid) total;
-    }
-
-pub move_picked-requires : goal.move_picked-requires
-move_picked-requires g c =
-    let load = c.args.senders.now.load in
-    let v = c.loop.net in
-    let u = c.begin_one.new.net in
-    let steps = c.loop.invariant.1 in
-    let begins = subst (λ k. BeginsOne load v c.loop.begun c.loop.unanswered k u c.begin_one.new.begun c.begin_one.new.unanswered) c.if-branch.false c.in_ok-begin_one.ensures.begins in
-    let total = subst (λ n. n ≤ 65536) (c.total-total.ensures.count ∙ ap packet_count c.load.ensures) c.total-total.ensures.few in
-    let same = c.begin_one.ensures.network ∙ c.loop.invariant.0 in
-    let still = still_way load v u u c.loop.begun c.begin_one.new.begun c.loop.unanswered c.begin_one.new.unanswered c.begin_one.new.unanswered steps c.loop.moves begins c.loop.invariant.3 in
-    record {
-      pick = c.requires.pick;
-      counts = still.unanswered.by_node;
-      few = few_on_the_way load u c.begin_one.new.begun c.begin_one.new.unanswered steps c.loop.moves still (subst IsValid (sym same) c.network.ensures.sound.valid) total;
     }
 
 pub returns-in_err-begin_one-clause-refused : goal.returns-in_err-begin_one-clause-refused

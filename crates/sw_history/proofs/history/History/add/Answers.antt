@@ -4,9 +4,6 @@ use Rattle.sw_history.proofs.Adds.{add_is_kept, made_may_follow, same_view, writ
 use Rattle.sw_history.proofs.Counts.{counted_more, few_begun, length-counted}
 use Rattle.sw_history.proofs.Noting.{all_noted, noted_more, same_senders}
 use Rattle.sw_history.proofs.Refused.{refused}
-use Rattle.sw_history.proofs.Within.{few}
-use Rattle.sw_config.specs.Entries.{Declaration}
-use Rattle.sw_history.specs.Unanswered.{AreFew}
 use Rattle.sw_history.specs.Noted.{noted_step}
 use Rattle.sw_history.proofs.history.History.add.Goals as goal
 use Rattle.sw_history.specs.History.{Adds, HistoryView, IsCounted, IsKept, Keeps}
@@ -40,15 +37,6 @@ count_begun-requires-clause-few g c =
     subst (λ (l : List ℕ). IfSome who (λ n. slice_index l n < 65536)) (sym c.as_mut_slice.ensures.value)
     (few_begun now.declared now.load now.steps in_self.begun.items kept.counted (machine_step c.args.step) who (length now.declared.nodes) 65536 kept.all_nodes (omega arith) c.in_ok-beginner.ensures.node c.in_ok-beginner.ensures.within c.in_ok-beginner.ensures.next)
 
-pub count-requires-clause-few : goal.count-requires-clause-few
-count-requires-clause-few g c =
-    let in_self = c.self.inside in
-    let kept = c.self.invariant.0 in
-    let valid = c.network-network.ensures.sound.valid in
-    let total = subst (λ k. k ≤ 65536) (c.total-total.ensures.count ∙ ap packet_count c.load.ensures) c.total-total.ensures.few in
-    subst (λ (d : Declaration). AreFew d in_self.unanswered) (sym c.make-made.ensures.network)
-    (few in_self.net.declared valid in_self.senders.load kept.packets total _ kept.state kept.leads in_self.unanswered kept.unanswered)
-
 pub invariant_of-self-2 : goal.invariant_of-self-2
 invariant_of-self-2 g c =
     let in_self = c.self.inside in
@@ -67,9 +55,10 @@ invariant_of-self-2 g c =
     let sound = all_noted in_self.senders now in_self.notes.items c.push_reserved.new.self.items c.note-note.result senders c.push_reserved.ensures.items c.note-note.ensures.sound c.self.invariant.2 in
     let counted = counted_more now.declared now.load now.steps in_self.begun.items kept.counted step who (length now.declared.nodes) kept.all_nodes c.in_ok-beginner.ensures.node c.in_ok-beginner.ensures.within in
     let inside = subst (λ (k : HistoryView). IsCounted k.declared (k.steps ++ step ∷ []) (counted_with in_self.begun.items who)) (sym c.self.view_is) counted in
+    let total = subst (λ k. k ≤ 65536) (c.total-total.ensures.count ∙ ap packet_count c.load.ensures) c.total-total.ensures.few in
     let room = vec_capacity in_self.notes - vec_len in_self.notes in
     let less = vec_capacity c.push_reserved.new.self - vec_len c.push_reserved.new.self in
-    let is = add_is_kept in_self.net c.make-made.new.net in_self.senders.load (map (noted_step in_self.senders) in_self.notes.items) step room less in_self.begun.items (counted_with in_self.begun.items who) in_self.unanswered c.count.new.self c.network-network.ensures.sound.valid c.make-made.ensures.network c.self.invariant.0 next keep c.in_ok-made.ensures.answers long inside c.counting_of-counting.result c.counting_of-counting.ensures.counting c.count.ensures in
+    let is = add_is_kept in_self.net c.make-made.new.net in_self.senders.load (map (noted_step in_self.senders) in_self.notes.items) step room less in_self.begun.items (counted_with in_self.begun.items who) in_self.unanswered c.make-made.new.unanswered c.network-network.ensures.sound.valid total c.make-made.ensures.network c.self.invariant.0 next keep c.in_ok-made.ensures.answers long inside c.in_ok-made.ensures.counted in
     rw (last, items) (is, c.self.invariant.1 ∙ sym c.make-made.ensures.network, sound)
 
 pub returns : goal.returns

@@ -7,20 +7,16 @@ use Rattle.sw_history.proofs.Within.{kept_none, kept_some, read_next}
 use Rattle.sw_history.proofs.history.History.next_within.Goals as goal
 use Rattle.sw_history.specs.History.{HistoryView, IsKept, Keeps}
 use Rattle.sw_history.specs.Next.{begin_of}
-use Rattle.sw_history.specs.Unanswered.{AreByNode}
 use Rattle.sw_load.specs.History.{next_packet, packet_of, packets_of}
 use Rattle.sw_load.specs.Load.{packet_count}
 use Rattle.sw_machine.specs.Model.{network_of}
 
 pub within_limit-requires : goal.within_limit-requires
 within_limit-requires g c =
-    let in_self = c.self.inside in
     let same = c.network.ensures.network ∙ ap (λ (k : HistoryView). k.declared) c.self.view_is in
-    let kept = subst (λ (k : HistoryView). IsKept in_self.net k in_self.begun.items in_self.unanswered) c.self.view_is c.self.invariant.0 in
     record {
       network = c.self.invariant.1 ∙ sym c.network.ensures.network;
       node = subst (λ (d : Declaration). c.args.node < length d.nodes) (sym same) c.requires;
-      counts = subst (λ (d : Declaration). AreByNode d in_self.unanswered) (sym same) (kept.unanswered).by_node;
     }
 
 pub returns-clause-some : goal.returns-clause-some
