@@ -2,18 +2,23 @@
 //! can't happen, and whether a network is free without them.
 #![tactic(auto)]
 
-mod begun;
+mod awaited;
 mod command;
 mod confirm;
 mod finding;
 pub mod laws;
+mod load;
 mod notes;
 mod placing;
 mod random;
+mod round;
+mod scheduled_net;
+mod tasks;
 mod trial;
 mod unanswered_flows;
 mod unlimited;
 mod way;
+mod ways;
 mod without;
 mod worm;
 
