@@ -23,11 +23,20 @@ pub(crate) struct ScheduledNet<'n> {
     awaited: Awaited,
     /// The schedule.
     pub(crate) text: String,
-    steps: u32,
+    /// How many steps it has.
+    pub(crate) steps: u32,
     /// Whether a step was made since this was last unset.
     pub(crate) moved: bool,
     /// Whether memory was wanting. No step is made from then on.
     pub(crate) failed: bool,
+}
+
+/// How many bytes of the flow's address are left at its end.
+fn left(network: &Network, flow: u16) -> usize {
+    if flow >= network.flows() {
+        return 0;
+    }
+    usize::from(network.flow(flow).left())
 }
 
 impl<'n> ScheduledNet<'n> {
@@ -90,10 +99,10 @@ impl<'n> ScheduledNet<'n> {
         Ok(self.awaited.allows(network, flow))
     }
 
-    /// Begins a packet, if the limits of its initiator are kept.
-    fn try_begin(&mut self, alloc: Global, load: Load) -> Result<(), AllocError> {
+    /// Begins a packet, if the limits of its initiator are kept, and gives how many bytes of it come out at its end.
+    fn try_begin(&mut self, alloc: Global, load: Load) -> Result<u32, AllocError> {
         if !self.may_begin(alloc, load.flow)? {
-            return Ok(());
+            return Ok(0);
         }
         let network = self.net.network();
         let flow = load.flow;
@@ -103,6 +112,7 @@ impl<'n> ScheduledNet<'n> {
             None
         };
         let (cargo, chosen) = load.cargo(alloc, network, identifier)?;
+        let count = left(network, flow).saturating_add(cargo.len());
         let step = Step::Begin {
             flow,
             cargo,
@@ -112,16 +122,21 @@ impl<'n> ScheduledNet<'n> {
         if self.moved {
             self.awaited.add(network, flow, chosen)?;
         }
-        Ok(())
+        Ok(u32::try_from(count).unwrap_or(0))
     }
 
-    /// Begins a packet, if the limits of its initiator are kept. Whether it was begun.
-    pub(crate) fn begin(&mut self, alloc: Global, load: Load) -> bool {
+    /// Begins a packet, if it can be, and the limits of its initiator are kept. How many bytes of it come out at its end; none where it was
+    /// not begun.
+    pub(crate) fn begin(&mut self, alloc: Global, load: Load) -> Option<u32> {
         self.moved = false;
-        if self.try_begin(alloc, load).is_err() {
-            self.failed = true;
+        match self.try_begin(alloc, load) {
+            Ok(count) if self.moved => Some(count),
+            Ok(_) => None,
+            Err(AllocError) => {
+                self.failed = true;
+                None
+            }
         }
-        self.moved
     }
 
     /// Moves characters from a node along a way, and no further: into each channel from the one before it, and to its end.

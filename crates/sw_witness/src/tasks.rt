@@ -1,4 +1,6 @@
 //! What is to be done so that channels wait for one another in a circle, and in which order.
+ghost use Rattle.std.specs.Prelude.{◌<◌, length};
+ghost use Rattle.sw_config.specs.Entries.{all_flows};
 
 use crate::awaited::Awaited;
 use crate::load::Load;
@@ -16,8 +18,10 @@ use sw_topo::PlaceEnd;
 pub(crate) enum Action {
     /// The node begins a packet, which comes to the end of the way, and no further.
     Park,
-    /// The node begins a command, which its target takes whole.
-    Deliver,
+    /// The node begins a command, which comes to the end of the way; its target takes it, but for its end.
+    Send,
+    /// The target takes the rest of the command.
+    Take,
     /// The node begins the reply that has waited longest, which comes to the end of the way, and no further.
     Answer,
 }
@@ -56,19 +60,61 @@ impl Task {
         }
     }
 
-    /// Is this to be done before the other? Not over channels that are held; nor does a node begin a packet that owes a reply; nor does a
-    /// reply leave before its command has come, or before those to commands that came earlier.
+    /// Is at its target a command that was sent before it by one of these tasks, and taken by none?
+    pub(crate) fn meets_another(&self, before: &[Task]) -> bool {
+        let mut sent = 0usize;
+        let mut taken = 0usize;
+        for task in before {
+            if task.target == self.target {
+                match task.action {
+                    Action::Send => sent = sent.saturating_add(1),
+                    Action::Take => taken = taken.saturating_add(1),
+                    Action::Park | Action::Answer => {}
+                }
+            }
+        }
+        sent > taken
+    }
+
+    // Does the node begin a packet of its own?
+    fn begins(&self) -> bool {
+        match self.action {
+            Action::Park | Action::Send => true,
+            Action::Take | Action::Answer => false,
+        }
+    }
+
+    // Does it go over a channel that the other holds?
+    fn goes_over_held(&self, other: &Task) -> bool {
+        self.action != Action::Take && meet(&self.way, other.held())
+    }
+
+    // Is this to be done before the other, a command of which is sent, since the replies leave in that order?
+    fn is_before_send(&self, other: &Task) -> bool {
+        self.is_first && self.target == other.target
+    }
+
+    // Is this to be done before the other, by which a target comes to owe a reply: is it that command, or a packet that the target begins,
+    // which none does that owes a reply?
+    fn is_before_take(&self, other: &Task) -> bool {
+        self.action == Action::Send && self.load.flow == other.load.flow
+            || self.begins() && self.node == other.target
+    }
+
+    // Is this to be done before the other, a reply: does its target take a command by this?
+    fn is_before_answer(&self, other: &Task) -> bool {
+        self.action == Action::Take && self.target == other.node
+    }
+
+    /// Is this to be done before the other?
     fn is_before(&self, other: &Task) -> bool {
-        let barred = other.action == Action::Deliver
-            && self.action != Action::Answer
-            && self.node == other.target;
-        let earlier = self.is_first
-            && match other.action {
-                Action::Park => false,
-                Action::Deliver => other.target == self.target,
-                Action::Answer => other.node == self.target,
-            };
-        barred || earlier || meet(&self.way, other.held())
+        let is_earlier = match other.action {
+            Action::Park => false,
+            Action::Send => self.is_before_send(other),
+            Action::Take => self.is_before_take(other),
+            Action::Answer => self.is_before_answer(other),
+        };
+        is_earlier || self.goes_over_held(other)
     }
 }
 
@@ -90,24 +136,23 @@ impl Plan {
         self.begun.add(network, flow, None)
     }
 
-    /// A command of the flow is brought to its target.
-    fn deliver(
+    /// Something is done with a command of the flow on its whole way.
+    fn add_of_command(
         &mut self,
         alloc: Global,
         network: &Network,
         ways: &Ways,
         flow: u16,
+        action: Action,
         is_first: bool,
-    ) -> Result<(), AllocError> {
-        if flow >= network.flows() {
-            return Ok(());
-        }
-        self.count(network, flow)?;
+    ) -> Result<(), AllocError>
+        requires { flow < length (all_flows network.now) }
+    {
+        let entry = network.flow(flow);
         let way = ways.of(flow).to_vec(alloc)?;
         let passed = way.len();
-        let entry = network.flow(flow);
         self.tasks.push(Task {
-            action: Action::Deliver,
+            action,
             load: Load {
                 flow,
                 is_command: true,
@@ -120,6 +165,23 @@ impl Plan {
             is_first,
         })?;
         Ok(())
+    }
+
+    /// A command of the flow is brought to its target, which takes it.
+    fn deliver(
+        &mut self,
+        alloc: Global,
+        network: &Network,
+        ways: &Ways,
+        flow: u16,
+        is_first: bool,
+    ) -> Result<(), AllocError> {
+        if flow >= network.flows() {
+            return Ok(());
+        }
+        self.count(network, flow)?;
+        self.add_of_command(alloc, network, ways, flow, Action::Send, is_first)?;
+        self.add_of_command(alloc, network, ways, flow, Action::Take, false)
     }
 
     /// A reply of the flow is brought to where it holds the last channel of the leg.
@@ -154,8 +216,8 @@ impl Plan {
         Ok(())
     }
 
-    /// A packet of the flow is brought to where it holds the channel of the leg: a long one, the tail of which is held up at its source,
-    /// or, if that may be, a short one, which holds that channel alone.
+    /// A packet of the flow is brought to where it holds the channel of the leg: a long one, the tail of which is held up at its source even
+    /// if the channel that it waits for has room, or, if that may be, a short one, which holds that channel alone.
     fn park(
         &mut self,
         alloc: Global,
@@ -175,7 +237,7 @@ impl Plan {
             let length = short_cargo(network, entry.address().len(), &way);
             (length, way.len().saturating_sub(1))
         } else {
-            (long_cargo(network, &way), 0)
+            (long_cargo(network, ways.up_to(flow, leg.to)), 0)
         };
         self.tasks.push(Task {
             action: Action::Park,
@@ -194,7 +256,7 @@ impl Plan {
     }
 
     /// The target at the end of the leg gets as many commands as it may owe replies, but for so many: of flows of which one more may be
-    /// begun, each as likely as another.
+    /// begun, each as likely as another. And often a short packet waits at it.
     fn fill(
         &mut self,
         alloc: Global,
@@ -214,20 +276,31 @@ impl Plan {
             return Ok(());
         };
         for _ in but..target.slots {
-            match self.any_to(network, random, node) {
+            match self.any_to(network, random, node, true) {
                 Some(flow) => self.deliver(alloc, network, ways, flow, false)?,
                 None => self.failed = true,
+            }
+        }
+        if random.below(2) == 0 {
+            if let Some(flow) = self.any_to(network, random, node, false) {
+                self.park(alloc, network, ways, flow, leg, true)?;
             }
         }
         Ok(())
     }
 
-    /// A flow of commands to the node of which one more may be begun, if there is one: each as likely as another.
-    fn any_to(&self, network: &Network, random: &mut Random, node: u16) -> Option<u16> {
+    /// A flow to the node of which one more packet may be begun, if there is one, or a flow of commands alone: each as likely as another.
+    fn any_to(
+        &self,
+        network: &Network,
+        random: &mut Random,
+        node: u16,
+        of_commands: bool,
+    ) -> Option<u16> {
         let mut chosen = None;
         let mut count = 0usize;
         for flow in 0..network.declared_flows() {
-            if network.flow(flow).is_answered_at(node) && self.begun.allows(network, flow) {
+            if leads_to(network, flow, node, of_commands) && self.begun.allows(network, flow) {
                 count = count.saturating_add(1);
                 if random.below(count) == 0 {
                     chosen = Some(flow);
@@ -236,6 +309,14 @@ impl Plan {
         }
         chosen
     }
+}
+
+/// Does the flow lead to the node, with commands if it is to be one of these?
+fn leads_to(network: &Network, flow: u16, node: u16, of_commands: bool) -> bool
+    requires { flow < length (all_flows network.now) }
+{
+    let entry = network.flow(flow);
+    entry.to() == node && (!of_commands || entry.reply().is_some())
 }
 
 /// What is to be done for the legs, in no order; none where too few commands may be unanswered for it.
@@ -295,7 +376,8 @@ fn tasks_of(
     }
 }
 
-/// The place of a task before which no other is to be done, if there is one: each as likely as another.
+/// The place of a task before which no other is to be done, if there is one: one by which a target takes a command, or else each as likely
+/// as another.
 fn any_ready(random: &mut Random, tasks: &[Task]) -> Option<usize> {
     let mut chosen = None;
     let mut count = 0usize;
@@ -304,6 +386,9 @@ fn any_ready(random: &mut Random, tasks: &[Task]) -> Option<usize> {
             .iter()
             .enumerate()
             .any(|(at, other)| at != index && other.is_before(task));
+        if !waits && task.action == Action::Take {
+            return Some(index);
+        }
         if !waits {
             count = count.saturating_add(1);
             if random.below(count) == 0 {

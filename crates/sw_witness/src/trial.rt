@@ -11,6 +11,7 @@ use crate::ways::Ways;
 use std::alloc::{AllocError, Global};
 use sw_config::Network;
 use sw_machine::Step;
+use sw_schedule::MAX_STEPS;
 use sw_search::Tangle;
 
 /// How often the channels of a way are gone over to place a packet, at most.
@@ -24,7 +25,7 @@ impl ScheduledNet<'_> {
     /// is held up at its source.
     fn place_packets(&mut self, alloc: Global, placing: &Placing) {
         for _ in 0..placing.most {
-            if !self.begin(alloc, placing.load) {
+            if self.begin(alloc, placing.load).is_none() {
                 break;
             }
             for _ in 0..MOST_ROUNDS {
@@ -83,27 +84,39 @@ impl ScheduledNet<'_> {
         }
     }
 
-    /// Brings the packet of the task, or its reply, as far as it is to come.
-    fn bring(&mut self, alloc: Global, task: &Task) {
+    /// Brings the packet of the task, or its reply, to the end of its way, where the target takes so many characters at most.
+    fn bring(&mut self, alloc: Global, task: &Task, most: u32) {
+        let mut left = most;
         for _ in 0..MOST_ROUNDS {
             self.moved = false;
             self.advance(alloc, task.node, &task.way);
-            if task.action == Action::Deliver {
-                self.repeat(alloc, Step::Accept(task.target), 64);
-            }
+            let before = self.steps;
+            self.repeat(alloc, Step::Accept(task.target), left);
+            left = left.saturating_sub(self.steps.saturating_sub(before));
             if !self.moved {
                 break;
             }
         }
     }
 
-    /// Does what is to be done.
-    fn carry_out(&mut self, alloc: Global, task: &Task) {
-        if task.action == Action::Answer {
-            self.repeat(alloc, Step::Reply(task.node), 1);
-            self.bring(alloc, task);
-        } else if self.begin(alloc, task.load) {
-            self.bring(alloc, task);
+    /// Begins the packet of the task, and brings it to the end of its way; the target takes all but its end there, if it is to.
+    fn begin_and_bring(&mut self, alloc: Global, task: &Task, is_taken: bool) {
+        if let Some(count) = self.begin(alloc, task.load) {
+            let most = if is_taken { count } else { 0 };
+            self.bring(alloc, task, most);
+        }
+    }
+
+    /// Does what is to be done after these tasks.
+    fn carry_out(&mut self, alloc: Global, before: &[Task], task: &Task) {
+        match task.action {
+            Action::Park => self.begin_and_bring(alloc, task, false),
+            Action::Send => self.begin_and_bring(alloc, task, !task.meets_another(before)),
+            Action::Take => self.bring(alloc, task, MAX_STEPS),
+            Action::Answer => {
+                self.repeat(alloc, Step::Reply(task.node), 1);
+                self.bring(alloc, task, 0);
+            }
         }
     }
 
@@ -139,8 +152,8 @@ impl ScheduledNet<'_> {
                 continue;
             };
             self.note_legs(alloc, network, &legs)?;
-            for task in &tasks {
-                self.carry_out(alloc, task);
+            for (index, task) in tasks.iter().enumerate() {
+                self.carry_out(alloc, &tasks[..index], task);
             }
             break;
         }
