@@ -10,13 +10,16 @@ use std::alloc::{AllocError, Global};
 use sw_config::Network;
 use sw_search::Tangle;
 
-/// What the try of that number makes wait: where commands are limited every second try takes any circle, since the shortest cycle may want
-/// more commands than an initiator leaves unanswered.
+/// What the try of that number makes wait: where commands are limited tries take other circles too, since the shortest cycle may want more
+/// commands than an initiator leaves unanswered.
 fn along(turn: u32, is_limited: bool) -> Along {
-    if is_limited && turn % 2 == 1 {
-        Along::AnyCircle
-    } else {
-        Along::Cycle
+    if !is_limited {
+        return Along::Cycle;
+    }
+    match turn % 8 {
+        0 | 4 => Along::Cycle,
+        7 => Along::Nothing,
+        _ => Along::AnyCircle,
     }
 }
 

@@ -1,6 +1,6 @@
 //! Lines of a schedule that a replay passes over: what its packets are sent for.
 
-use crate::round::Leg;
+use crate::leg::Leg;
 use std::alloc::{AllocError, Global};
 use sw_config::Network;
 use sw_output::{channel_text, node_name};

@@ -1,6 +1,7 @@
 //! Channels that wait for one another in a circle, one of many such circles.
 
 use crate::awaited::Awaited;
+use crate::leg::Leg;
 use crate::random::Random;
 use crate::ways::Ways;
 use std::alloc::{AllocError, Global};
@@ -10,39 +11,15 @@ use sw_topo::Chan;
 /// How many channels are walked over, at most.
 const MOST_LEGS: u32 = 200;
 
-/// One channel that waits for another.
-#[derive(Clone, Copy)]
-pub(crate) struct Leg {
-    /// The channel that is held.
-    pub(crate) from: Chan,
-    /// The one that is waited for.
-    pub(crate) to: Chan,
-    /// The flow whose packet holds the one and waits for the other; none where a target takes nothing from the one until a reply
-    /// of its has left on the other.
-    pub(crate) flow: Option<u16>,
+/// May one more packet be begun that the leg wants, or, if it is of a reply, its command?
+fn is_allowed(network: &Network, ways: &Ways, begun: &Awaited, leg: &Leg) -> bool {
+    match leg.flow {
+        Some(flow) => begun.allows(network, ways.command_flow(flow)),
+        None => true,
+    }
 }
 
-/// The leg of the flow from the channel on, if it goes on from there.
-fn leg_of(ways: &Ways, from: Chan, flow: u16) -> Option<Leg> {
-    let to = ways.next(flow, from)?;
-    Some(Leg {
-        from,
-        to,
-        flow: Some(flow),
-    })
-}
-
-/// The leg of the target at the end of the channel, if there is one.
-fn leg_at_target(network: &Network, ways: &Ways, from: Chan) -> Option<Leg> {
-    let to = ways.next_at_target(network, from)?;
-    Some(Leg {
-        from,
-        to,
-        flow: None,
-    })
-}
-
-/// A leg of another flow than the last, one that may have one more packet: each as likely as another.
+/// A leg from the channel on of another packet than the last, one that may be begun: each as likely as another.
 fn leg_of_another(
     network: &Network,
     random: &mut Random,
@@ -53,22 +30,29 @@ fn leg_of_another(
 ) -> Option<Leg> {
     let mut chosen = None;
     let mut count = 0usize;
-    for flow in 0..network.flows() {
-        let Some(leg) = leg_of(ways, from, flow) else {
-            continue;
-        };
-        if last == Some(flow) || !begun.allows(network, ways.command_flow(flow)) {
+    for leg in ways.legs_from(from) {
+        if leg.flow.is_some() && leg.flow == last || !is_allowed(network, ways, begun, leg) {
             continue;
         }
         count = count.saturating_add(1);
         if random.below(count) == 0 {
-            chosen = Some(leg);
+            chosen = Some(*leg);
         }
     }
     chosen
 }
 
-/// A leg from the channel on: where a flow goes on that held the channel before, often one of that.
+/// The leg of the flow from the channel on, if there is a flow, and it goes on from there.
+fn leg_of_same(ways: &Ways, from: Chan, last: Option<u16>) -> Option<Leg> {
+    for leg in ways.legs_from(from) {
+        if leg.flow.is_some() && leg.flow == last {
+            return Some(*leg);
+        }
+    }
+    None
+}
+
+/// A leg from the channel on: where a flow goes on that held the channel before, as often as not one of that.
 fn next_leg(
     network: &Network,
     random: &mut Random,
@@ -77,18 +61,12 @@ fn next_leg(
     from: Chan,
     last: Option<u16>,
 ) -> Option<Leg> {
-    let same = leg_of(ways, from, last.unwrap_or(u16::MAX));
+    let same = leg_of_same(ways, from, last);
     if same.is_some() && random.below(2) == 0 {
         return same;
     }
     let another = leg_of_another(network, random, ways, begun, from, last);
-    if another.is_some() {
-        another
-    } else if same.is_some() {
-        same
-    } else {
-        leg_at_target(network, ways, from)
-    }
+    if another.is_some() { another } else { same }
 }
 
 /// Walks from the channel on, until it comes to a channel a second time, and gives the legs from there on: a circle. None where the walk has

@@ -158,25 +158,37 @@ impl<'n> ScheduledNet<'n> {
         }
     }
 
-    /// Lets the network go on until nothing can: time after time each link end makes a step, if one is possible other than to begin a
-    /// packet, those from a number on first.
-    pub(crate) fn run(&mut self, alloc: Global, random: &mut Random) {
+    /// Each link end makes a step, if one is possible other than to begin a packet, those from a number on first; replies are begun only where
+    /// they may leave. Whether a step was made.
+    pub(crate) fn sweep(
+        &mut self,
+        alloc: Global,
+        random: &mut Random,
+        replies_leave: bool,
+    ) -> bool {
         let channels = self.net.network().channels();
-        for _ in 0..MOST_SWEEPS {
-            self.moved = false;
-            let mut number = random.number(MAX_CHANNELS as u16);
-            for _ in 0..channels {
-                if number >= channels {
-                    number = 0;
-                }
-                if number < self.net.network().channels() {
-                    if let Some(step) = self.net.possible_at(LinkEnd::new(number)) {
-                        self.repeat(alloc, step, 1);
-                    }
-                }
-                number = number.saturating_add(1);
+        self.moved = false;
+        let mut number = random.number(MAX_CHANNELS as u16);
+        for _ in 0..channels {
+            if number >= channels {
+                number = 0;
             }
-            if !self.moved {
+            if number < self.net.network().channels() {
+                match self.net.possible_at(LinkEnd::new(number)) {
+                    Some(Step::Reply(_)) if !replies_leave => {}
+                    Some(step) => self.repeat(alloc, step, 1),
+                    None => {}
+                }
+            }
+            number = number.saturating_add(1);
+        }
+        self.moved
+    }
+
+    /// Lets the network go on until nothing can, but that packets are begun.
+    pub(crate) fn run(&mut self, alloc: Global, random: &mut Random) {
+        for _ in 0..MOST_SWEEPS {
+            if !self.sweep(alloc, random, true) {
                 break;
             }
         }

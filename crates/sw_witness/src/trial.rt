@@ -1,12 +1,15 @@
 //! Tries: packets are placed so that channels wait for one another, and then the network goes on until nothing can.
 
+use crate::leg::Leg;
 use crate::load::Load;
 use crate::notes::note_leg;
+use crate::order::ordered;
 use crate::placing::{Placing, plan};
+use crate::plan::planned_tasks;
 use crate::random::Random;
-use crate::round::{Leg, any_round};
+use crate::round::any_round;
 use crate::scheduled_net::ScheduledNet;
-use crate::tasks::{Action, Task, ordered_tasks};
+use crate::task::{Action, Task};
 use crate::ways::Ways;
 use std::alloc::{AllocError, Global};
 use sw_config::Network;
@@ -148,7 +151,10 @@ impl ScheduledNet<'_> {
                 break;
             };
             let legs = any_round(alloc, network, random, &ways, *start)?;
-            let Some(tasks) = ordered_tasks(alloc, network, random, &ways, &legs)? else {
+            let Some(planned) = planned_tasks(alloc, network, random, &ways, &legs)? else {
+                continue;
+            };
+            let Some(tasks) = ordered(alloc, random, planned)? else {
                 continue;
             };
             self.note_legs(alloc, network, &legs)?;
@@ -176,6 +182,10 @@ impl ScheduledNet<'_> {
                     self.failed = true;
                 }
             }
+            Along::Nothing => match Ways::new(alloc, network, random) {
+                Ok(ways) => self.wander(alloc, network, random, &ways),
+                Err(AllocError) => self.failed = true,
+            },
         }
     }
 }
@@ -187,6 +197,8 @@ pub(crate) enum Along {
     Cycle,
     /// Those of any circle in a tangle, with no more commands than may be unanswered at once.
     AnyCircle,
+    /// Any, as it happens.
+    Nothing,
 }
 
 /// One try: a schedule after which the network is locked up, if it came to that. It places what makes channels of one of the tangles

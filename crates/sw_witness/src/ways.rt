@@ -2,23 +2,22 @@
 ghost use Rattle.std.specs.Prelude.{◌<◌, ◌≤◌, length};
 ghost use Rattle.sw_config.specs.Entries.{all_flows};
 
+use crate::leg::Leg;
 use crate::random::Random;
 use std::alloc::{AllocError, Global};
 use sw_config::{Flow, Network};
 use sw_flow::{Place, flow_start, followers_in};
-use sw_topo::{Chan, PlaceEnd};
+use sw_topo::Chan;
 
-/// A way of each flow, and what can wait along these.
+/// A way of each flow, and the channels that can wait for one another along these.
 #[derive(Drop)]
 pub(crate) struct Ways {
     // By flow, the places from its start to its end.
     places: Vec<Vec<Place>>,
     // By flow, the flow of the commands: of a reply flow that which it answers, of another itself.
     commands: Vec<u16>,
-    // By node, whether it may take nothing until it has sent a reply.
-    waiting: Vec<bool>,
-    // By channel, whether one can wait from it on, for one channel after another, without end.
-    endless: Vec<bool>,
+    // By channel, for which it can wait: those from which one can wait for one channel after another, without end.
+    legs: Vec<Vec<Leg>>,
 }
 
 /// A place that follows that of the flow, if one does: each as likely as another.
@@ -59,6 +58,19 @@ fn any_way(
     Ok(way)
 }
 
+/// A way of each flow, by its number.
+fn any_ways(
+    alloc: Global,
+    network: &Network,
+    random: &mut Random,
+) -> Result<Vec<Vec<Place>>, AllocError> {
+    let mut ways = Vec::new(alloc);
+    for flow in 0..network.flows() {
+        ways.push(any_way(alloc, network, random, flow)?)?;
+    }
+    Ok(ways)
+}
+
 /// By flow, the flow of the commands.
 fn command_flows(alloc: Global, network: &Network) -> Result<Vec<u16>, AllocError> {
     let mut flows = Vec::new(alloc);
@@ -73,44 +85,94 @@ fn command_flows(alloc: Global, network: &Network) -> Result<Vec<u16>, AllocErro
     Ok(flows)
 }
 
-/// The channel behind this one on the way, if there is one.
-fn next_on(way: &[Place], channel: Chan) -> Option<Chan> {
-    let index = index_on(way, channel)?;
-    Some(way.get(index.checked_add(1)?)?.channel)
+/// Adds the leg to those of its first channel, if there is a row for it.
+fn add_leg(rows: &mut [Vec<Leg>], leg: Leg) -> Result<(), AllocError> {
+    let number = usize::from(leg.from.number());
+    if number < rows.len() {
+        rows[number].push(leg)?;
+    }
+    Ok(())
+}
+
+/// Adds the legs of the flow on its way.
+fn add_legs_of(rows: &mut [Vec<Leg>], flow: u16, way: &[Place]) -> Result<(), AllocError> {
+    let mut before: Option<Chan> = None;
+    for place in way {
+        let to = place.channel;
+        if let Some(from) = before {
+            let leg = Leg {
+                from,
+                to,
+                flow: Some(flow),
+            };
+            add_leg(rows, leg)?;
+        }
+        before = Some(to);
+    }
+    Ok(())
+}
+
+/// Adds the legs at the targets that may take nothing until they have sent a reply.
+fn add_legs_at_targets(network: &Network, rows: &mut [Vec<Leg>]) -> Result<(), AllocError> {
+    for node in 0..network.nodes() {
+        if network.may_make_wait(node) {
+            let to = network.topology().out(node);
+            let leg = Leg {
+                from: to.partner(),
+                to,
+                flow: None,
+            };
+            add_leg(rows, leg)?;
+        }
+    }
+    Ok(())
+}
+
+/// By channel, all legs from it on along the ways.
+fn all_legs(
+    alloc: Global,
+    network: &Network,
+    ways: &[Vec<Place>],
+) -> Result<Vec<Vec<Leg>>, AllocError> {
+    let mut rows = Vec::new(alloc);
+    for _ in 0..network.channels() {
+        rows.push(Vec::new(alloc))?;
+    }
+    for flow in 0..network.flows() {
+        if let Some(way) = ways.get(usize::from(flow)) {
+            add_legs_of(&mut rows, flow, way)?;
+        }
+    }
+    add_legs_at_targets(network, &mut rows)?;
+    Ok(rows)
+}
+
+/// Does the leg lead to a channel that has legs?
+fn leads_on(leg: &Leg, lengths: &[usize]) -> bool {
+    match lengths.get(usize::from(leg.to.number())) {
+        Some(length) => *length > 0,
+        None => false,
+    }
+}
+
+/// Takes the legs away that lead to channels from which none leads on. Whether there were some.
+fn take_last(alloc: Global, rows: &mut [Vec<Leg>]) -> Result<bool, AllocError> {
+    let mut lengths = Vec::new(alloc);
+    for row in rows.iter() {
+        lengths.push(row.len())?;
+    }
+    let mut any = false;
+    for row in rows.iter_mut() {
+        let before = row.len();
+        row.retain(|leg| leads_on(leg, &lengths));
+        any = any || row.len() < before;
+    }
+    Ok(any)
 }
 
 /// Where on the way the channel is.
 fn index_on(way: &[Place], channel: Chan) -> Option<usize> {
     way.iter().position(|place| place.channel == channel)
-}
-
-/// Is it marked?
-fn is_marked(marks: &[bool], number: u16) -> bool {
-    match marks.get(usize::from(number)) {
-        Some(mark) => *mark,
-        None => false,
-    }
-}
-
-/// Marks it.
-fn mark(marks: &mut [bool], number: u16) {
-    let number = usize::from(number);
-    if number < marks.len() {
-        marks[number] = true;
-    }
-}
-
-/// Marks the channels of the way from which it goes on to a marked one.
-fn mark_before(way: &[Place], marks: &[bool], found: &mut [bool]) {
-    let mut before: Option<Chan> = None;
-    for place in way {
-        if let Some(channel) = before {
-            if is_marked(marks, place.channel.number()) {
-                mark(found, channel.number());
-            }
-        }
-        before = Some(place.channel);
-    }
 }
 
 impl Ways {
@@ -120,50 +182,19 @@ impl Ways {
         network: &Network,
         random: &mut Random,
     ) -> Result<Ways, AllocError> {
-        let mut places = Vec::new(alloc);
-        for flow in 0..network.flows() {
-            places.push(any_way(alloc, network, random, flow)?)?;
-        }
-        let mut ways = Ways {
-            places,
-            commands: command_flows(alloc, network)?,
-            waiting: network.waiting_nodes(alloc)?,
-            endless: vec![in alloc; true; usize::from(network.channels())]?,
-        };
-        ways.find_endless(alloc, network)?;
-        Ok(ways)
-    }
-
-    /// The channels from which one can wait for a marked one.
-    fn channels_before_marked(
-        &self,
-        alloc: Global,
-        network: &Network,
-    ) -> Result<Vec<bool>, AllocError> {
-        let mut found = vec![in alloc; false; usize::from(network.channels())]?;
-        for way in &self.places {
-            mark_before(way, &self.endless, &mut found);
-        }
-        for node in 0..network.nodes() {
-            let out = network.topology().out(node);
-            if is_marked(&self.waiting, node) && is_marked(&self.endless, out.number()) {
-                mark(&mut found, out.partner().number());
-            }
-        }
-        Ok(found)
-    }
-
-    /// Finds the channels from which one can wait without end: takes away those from which one can wait for none that is left, until none is.
-    fn find_endless(&mut self, alloc: Global, network: &Network) -> Result<(), AllocError> {
+        let places = any_ways(alloc, network, random)?;
+        let commands = command_flows(alloc, network)?;
+        let mut legs = all_legs(alloc, network, &places)?;
         for _ in 0..network.channels() {
-            let left = self.channels_before_marked(alloc, network)?;
-            let is_same = left == self.endless;
-            self.endless = left;
-            if is_same {
+            if !take_last(alloc, &mut legs)? {
                 break;
             }
         }
-        Ok(())
+        Ok(Ways {
+            places,
+            commands,
+            legs,
+        })
     }
 
     /// The flow's way; no places where there is no such flow.
@@ -191,30 +222,11 @@ impl Ways {
         }
     }
 
-    /// The channel to which the flow goes on from this one, if one can wait from there without end.
-    pub(crate) fn next(&self, flow: u16, channel: Chan) -> Option<Chan> {
-        let next = next_on(self.of(flow), channel)?;
-        if is_marked(&self.endless, next.number()) {
-            Some(next)
-        } else {
-            None
-        }
-    }
-
-    /// The channel on which the node's replies leave at the end of this one, if it may take nothing there until it has sent one, and if one
-    /// can wait from there without end.
-    pub(crate) fn next_at_target(&self, network: &Network, channel: Chan) -> Option<Chan> {
-        if channel.number() >= network.channels() {
-            return None;
-        }
-        let PlaceEnd::Node(node) = network.topology().end_of(channel) else {
-            return None;
-        };
-        let out = channel.partner();
-        if is_marked(&self.waiting, node) && is_marked(&self.endless, out.number()) {
-            Some(out)
-        } else {
-            None
+    /// The legs from the channel on.
+    pub(crate) fn legs_from(&self, channel: Chan) -> &[Leg] {
+        match self.legs.get(usize::from(channel.number())) {
+            Some(legs) => legs.as_slice(),
+            None => &[],
         }
     }
 }
