@@ -72,15 +72,11 @@ impl Awaited {
         if node >= network.nodes() {
             return true;
         }
-        let mut of_flow = 0;
-        let mut of_node = 0;
+        let mut of_flow = 0usize;
+        let mut of_node = 0usize;
         for command in &self.commands {
-            if command.flow == flow {
-                of_flow += 1;
-            }
-            if command.node == node {
-                of_node += 1;
-            }
+            of_flow = of_flow.saturating_add(usize::from(command.flow == flow));
+            of_node = of_node.saturating_add(usize::from(command.node == node));
         }
         is_below(of_flow, reply.outstanding()) && is_below(of_node, network.outstanding(node))
     }

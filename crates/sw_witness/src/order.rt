@@ -36,10 +36,10 @@ pub(crate) fn ordered(
     let mut left = tasks;
     let mut ordered = Vec::new(alloc);
     for _ in 0..left.len() {
-        let Some(index) = any_ready(random, &left) else {
-            return Ok(None);
-        };
-        ordered.push(left.remove(index))?;
+        match any_ready(random, &left) {
+            Some(index) if index < left.len() => ordered.push(left.remove(index))?,
+            _ => return Ok(None),
+        }
     }
     Ok(Some(ordered))
 }

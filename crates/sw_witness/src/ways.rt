@@ -21,12 +21,12 @@ pub(crate) struct Ways {
 }
 
 /// A place that follows that of the flow, if one does: each as likely as another.
-fn any_follower(network: &Network, random: &mut Random, flow: &Flow, place: Place) -> Option<Place>
+fn any_follower(network: &Network, random: &mut Random, flow: &Flow, place: &Place) -> Option<Place>
     requires { length flow.now.address ≤ 32 }
 {
     let mut chosen = None;
     let mut count = 0usize;
-    for follower in followers_in(network, flow, place) {
+    for follower in followers_in(network, flow, *place) {
         count = count.saturating_add(1);
         if random.below(count) == 0 {
             chosen = Some(follower);
@@ -45,15 +45,16 @@ fn any_way(
     requires { flow < length (all_flows network.now) }
 {
     let flow = network.flow(flow);
-    let mut place = flow_start(network, flow);
     let mut way = Vec::new(alloc);
-    way.push(place)?;
+    way.push(flow_start(network, flow))?;
     for _ in 0..network.channels() {
+        let Some(place) = way.last() else {
+            break;
+        };
         let Some(follower) = any_follower(network, random, flow, place) else {
             break;
         };
-        place = follower;
-        way.push(place)?;
+        way.push(follower)?;
     }
     Ok(way)
 }
@@ -209,7 +210,7 @@ impl Ways {
     pub(crate) fn up_to(&self, flow: u16, channel: Chan) -> &[Place] {
         let way = self.of(flow);
         match index_on(way, channel) {
-            Some(index) => &way[..index + 1],
+            Some(index) => &way[..index.saturating_add(1).min(way.len())],
             None => way,
         }
     }
