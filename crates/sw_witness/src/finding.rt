@@ -18,7 +18,7 @@ fn along(turn: u32, is_limited: bool) -> Along {
     }
     match turn % 8 {
         0 | 4 => Along::Cycle,
-        7 => Along::Nothing,
+        7 => Along::NoCircle,
         _ => Along::AnyCircle,
     }
 }

@@ -3,6 +3,7 @@
 #![tactic(auto)]
 
 mod awaited;
+mod circle;
 mod command;
 mod confirm;
 mod finding;
@@ -14,7 +15,6 @@ mod order;
 mod placing;
 mod plan;
 mod random;
-mod round;
 mod scheduled_net;
 mod task;
 mod trial;

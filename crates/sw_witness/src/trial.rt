@@ -1,5 +1,6 @@
 //! Tries: packets are placed so that channels wait for one another, and then the network goes on until nothing can.
 
+use crate::circle::any_circle;
 use crate::leg::Leg;
 use crate::load::Load;
 use crate::notes::note_leg;
@@ -7,7 +8,6 @@ use crate::order::ordered;
 use crate::placing::{Placing, plan};
 use crate::plan::planned_tasks;
 use crate::random::Random;
-use crate::round::any_round;
 use crate::scheduled_net::ScheduledNet;
 use crate::task::{Action, Task};
 use crate::ways::Ways;
@@ -22,6 +22,17 @@ const MOST_ROUNDS: u32 = 20_000;
 
 /// How many circles of channels a try looks at, at most, until there is one for which packets can be placed.
 const MOST_CIRCLES: u32 = 100;
+
+/// Which channels a try makes wait for one another.
+#[derive(Clone, Copy)]
+pub(crate) enum Along {
+    /// Those of a tangle's shortest cycle, with any number of packets.
+    Cycle,
+    /// Those of any circle in a tangle, with no more commands than may be unanswered at once.
+    AnyCircle,
+    /// Any, as it happens: packets of all flows are begun, with no plan.
+    NoCircle,
+}
 
 impl ScheduledNet<'_> {
     /// Sends the packets one after another, each as far as it comes along its way, and a reply to it from there along its own, until one
@@ -150,7 +161,7 @@ impl ScheduledNet<'_> {
             let Some(start) = channels.get(random.below(channels.len())) else {
                 break;
             };
-            let legs = any_round(alloc, network, random, &ways, *start)?;
+            let legs = any_circle(alloc, network, random, &ways, *start)?;
             let Some(planned) = planned_tasks(alloc, network, random, &ways, &legs)? else {
                 continue;
             };
@@ -182,23 +193,12 @@ impl ScheduledNet<'_> {
                     self.failed = true;
                 }
             }
-            Along::Nothing => match Ways::new(alloc, network, random) {
+            Along::NoCircle => match Ways::new(alloc, network, random) {
                 Ok(ways) => self.wander(alloc, network, random, &ways),
                 Err(AllocError) => self.failed = true,
             },
         }
     }
-}
-
-/// Which channels a try makes wait for one another.
-#[derive(Clone, Copy)]
-pub(crate) enum Along {
-    /// Those of a tangle's shortest cycle, with any number of packets.
-    Cycle,
-    /// Those of any circle in a tangle, with no more commands than may be unanswered at once.
-    AnyCircle,
-    /// Any, as it happens.
-    Nothing,
 }
 
 /// One try: a schedule after which the network is locked up, if it came to that. It places what makes channels of one of the tangles

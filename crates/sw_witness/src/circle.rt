@@ -8,7 +8,7 @@ use std::alloc::{AllocError, Global};
 use sw_config::Network;
 use sw_topo::Chan;
 
-/// How many channels are walked over, at most.
+/// How many channels a walk goes over, at most.
 const MOST_LEGS: u32 = 200;
 
 /// May one more packet be begun that the leg wants, or, if it is of a reply, its command?
@@ -71,7 +71,7 @@ fn next_leg(
 
 /// Walks from the channel on, until it comes to a channel a second time, and gives the legs from there on: a circle. None where the walk has
 /// come to an end before.
-fn circle(
+fn walked(
     alloc: Global,
     network: &Network,
     random: &mut Random,
@@ -125,14 +125,14 @@ fn from_a_first(alloc: Global, legs: &[Leg]) -> Result<Vec<Leg>, AllocError> {
 }
 
 /// Channels that wait for one another in a circle, found by a walk from the channel on; none where the walk finds none.
-pub(crate) fn any_round(
+pub(crate) fn any_circle(
     alloc: Global,
     network: &Network,
     random: &mut Random,
     ways: &Ways,
     start: Chan,
 ) -> Result<Vec<Leg>, AllocError> {
-    match circle(alloc, network, random, ways, start)? {
+    match walked(alloc, network, random, ways, start)? {
         Some(legs) => from_a_first(alloc, &legs),
         None => Ok(Vec::new(alloc)),
     }
