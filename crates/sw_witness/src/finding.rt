@@ -4,10 +4,24 @@ ghost use Rattle.sw_witness.specs.Witnesses.{LocksUp};
 
 use crate::confirm::locks_up;
 use crate::random::Random;
-use crate::trial::one_try;
+use crate::trial::{Along, one_try};
+use crate::unlimited::has_no_limits;
 use std::alloc::{AllocError, Global};
 use sw_config::Network;
 use sw_search::Tangle;
+
+/// What the try of that number makes wait: where commands are limited tries take other circles too, since the shortest cycle may want more
+/// commands than an initiator leaves unanswered.
+fn along(turn: u32, is_limited: bool) -> Along {
+    if !is_limited {
+        return Along::Cycle;
+    }
+    match turn % 8 {
+        0 | 4 => Along::Cycle,
+        7 => Along::NoCircle,
+        _ => Along::AnyCircle,
+    }
+}
 
 /// A schedule that leads the network into a lock-up, by at most so many tries. None says nothing of the network.
 ///
@@ -26,9 +40,17 @@ pub fn find(
 ) -> Result<Option<String>, AllocError>
     ensures { IfOk result (λ found. IfSome found (λ text. LocksUp network.now (string_bytes text))) }
 {
+    let is_limited = !has_no_limits(network);
     for turn in 0..tries {
         let mut random = Random::new(seed, turn);
-        let Some(text) = one_try(alloc, network, tangles, &mut random)? else {
+        let Some(text) = one_try(
+            alloc,
+            network,
+            tangles,
+            &mut random,
+            along(turn, is_limited),
+        )?
+        else {
             continue;
         };
         if locks_up(alloc, network, text.as_bytes())? {

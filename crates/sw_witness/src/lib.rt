@@ -2,18 +2,27 @@
 //! can't happen, and whether a network is free without them.
 #![tactic(auto)]
 
-mod begun;
+mod awaited;
+mod circle;
 mod command;
 mod confirm;
 mod finding;
 pub mod laws;
+mod leg;
+mod load;
 mod notes;
+mod order;
 mod placing;
+mod plan;
 mod random;
+mod scheduled_net;
+mod task;
 mod trial;
 mod unanswered_flows;
 mod unlimited;
+mod wandering;
 mod way;
+mod ways;
 mod without;
 mod worm;
 

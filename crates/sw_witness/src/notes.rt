@@ -1,9 +1,10 @@
 //! Lines of a schedule that a replay passes over: what its packets are sent for.
 
+use crate::leg::Leg;
 use std::alloc::{AllocError, Global};
 use sw_config::Network;
-use sw_output::channel_text;
-use sw_topo::Chan;
+use sw_output::{channel_text, node_name};
+use sw_topo::{Chan, PlaceEnd};
 
 /// What stands in the note of a flow, whose packets are to hold the one channel and to wait for the other.
 pub(crate) const OF_FLOW: [&str; 3] = ["# a packet of ", " is to hold ", " and to wait for "];
@@ -34,4 +35,42 @@ pub(crate) fn note(
     let from = channel_text(alloc, network, from)?;
     let to = channel_text(alloc, network, to)?;
     write!(text, "{begun}{name}{held}{from}{wanted}{to}\n")
+}
+
+/// Adds a line for the leg: of the flow whose packet holds its channel, or of the target at its end.
+pub(crate) fn note_leg(
+    alloc: Global,
+    network: &Network,
+    leg: &Leg,
+    text: &mut String,
+) -> Result<(), AllocError> {
+    let Leg { from, to, flow } = *leg;
+    if from.number() >= network.channels() {
+        return Ok(());
+    }
+    match (flow, network.topology().end_of(from)) {
+        (Some(flow), _) if flow < network.flows() => {
+            note(
+                alloc,
+                network,
+                OF_FLOW,
+                network.flow(flow).name(),
+                from,
+                to,
+                text,
+            )
+        }
+        (None, PlaceEnd::Node(node)) => {
+            note(
+                alloc,
+                network,
+                OF_TARGET,
+                node_name(network, node),
+                from,
+                to,
+                text,
+            )
+        }
+        _ => Ok(()),
+    }
 }

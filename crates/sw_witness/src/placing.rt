@@ -2,7 +2,7 @@
 ghost use Rattle.std.specs.Prelude.{◌<◌, length};
 ghost use Rattle.sw_config.specs.Entries.{all_flows};
 
-use crate::command::header;
+use crate::load::Load;
 use crate::notes::{OF_FLOW, OF_TARGET, note};
 use crate::random::Random;
 use crate::way::way_onto;
@@ -11,9 +11,7 @@ use std::alloc::{AllocError, Global};
 use std::mem;
 use sw_config::Network;
 use sw_flow::Place;
-use sw_machine::left_bytes;
 use sw_output::node_name;
-use sw_rmap::crc;
 use sw_search::Tangle;
 use sw_topo::{Chan, PlaceEnd};
 
@@ -26,48 +24,18 @@ const MOST_COMMANDS: u32 = 300;
 /// Packets of one flow that are to be sent one after another; none at first.
 #[derive(Drop)]
 pub(crate) struct Placing {
-    /// The flow's number.
-    pub(crate) flow: u16,
-    /// The node where it starts.
+    /// What they carry.
+    pub(crate) load: Load,
+    /// The node where the flow starts.
     pub(crate) source: u16,
     /// The node where it ends.
     pub(crate) target: u16,
-    /// The cargo of each packet.
-    pub(crate) cargo: Vec<u8>,
     /// How many follow one another, at most.
     pub(crate) most: u32,
     /// The way of the packets.
     pub(crate) there: Vec<Place>,
     /// The way of the replies to them; none where the target is not to take them.
     pub(crate) back: Vec<Place>,
-}
-
-/// Adds the cargo of a command of the flow, if it has replies, and ends at a target: a header and its code, but for the bytes in front that
-/// are left of the flow's address.
-fn add_command(
-    alloc: Global,
-    network: &Network,
-    flow: u16,
-    cargo: &mut Vec<u8>,
-) -> Result<(), AllocError>
-    requires { flow < length (all_flows network.now) }
-{
-    let entry = network.flow(flow);
-    let Some(reply) = entry.reply() else {
-        return Ok(());
-    };
-    let Some(target) = network.target(entry.to()) else {
-        return Ok(());
-    };
-    let header = header(alloc, &target, reply)?;
-    let left = left_bytes(entry);
-    let bytes = &header[left.len().min(header.len())..];
-    let mut code = crc(left);
-    for byte in bytes {
-        code = crc(&[code ^ byte]);
-    }
-    cargo.extend_from_slice(bytes)?;
-    cargo.extend_from_slice(&[code])
 }
 
 /// Commands of the flow on its way to the channel, if it has replies, and ends at a target.
@@ -83,12 +51,15 @@ fn plan_commands(
     if !way_onto(alloc, network, flow, channel, None, &mut placing.there)? {
         return Ok(());
     }
-    add_command(alloc, network, flow, &mut placing.cargo)?;
-    if placing.cargo.is_empty() {
+    let entry = network.flow(flow);
+    if entry.reply().is_none() {
         return Ok(());
     }
-    let entry = network.flow(flow);
-    placing.flow = flow;
+    placing.load = Load {
+        flow,
+        is_command: true,
+        length: 0,
+    };
     placing.source = entry.from();
     placing.target = entry.to();
     placing.most = MOST_COMMANDS;
@@ -143,21 +114,19 @@ fn plan_flow(
     if flow >= network.declared_flows() {
         return plan_replies(alloc, network, flow, placing);
     }
-    placing.flow = flow;
     placing.source = entry.from();
-    if network.is_limited(flow) {
-        add_command(alloc, network, flow, &mut placing.cargo)?;
-    }
-    let count = if random.below(3) > 0 {
+    let length = if random.below(3) > 0 {
         placing.most = MOST_PACKETS;
         long_cargo(network, &placing.there)
     } else {
         placing.most = 1;
         short_cargo(network, entry.address().len(), &placing.there)
     };
-    if placing.cargo.len() < count {
-        placing.cargo.resize(count, 0)?;
-    }
+    placing.load = Load {
+        flow,
+        is_command: network.is_limited(flow),
+        length,
+    };
     Ok(())
 }
 

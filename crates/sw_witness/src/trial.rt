@@ -1,105 +1,47 @@
-//! A network whose steps are written down.
+//! Tries: packets are placed so that channels wait for one another, and then the network goes on until nothing can.
 
-use crate::begun::CommandsBegun;
+use crate::circle::any_circle;
+use crate::leg::Leg;
+use crate::load::Load;
+use crate::notes::note_leg;
+use crate::order::ordered;
 use crate::placing::{Placing, plan};
+use crate::plan::planned_tasks;
 use crate::random::Random;
+use crate::scheduled_net::ScheduledNet;
+use crate::task::{Action, Task};
+use crate::ways::Ways;
 use std::alloc::{AllocError, Global};
-use sw_arb::Policy;
-use sw_char::End;
 use sw_config::Network;
-use sw_flow::Place;
 use sw_machine::Step;
-use sw_schedule::{MAX_STEPS, Net, SwitchRoutes, Unanswered, add_entry, declared_net, make_step};
+use sw_schedule::MAX_STEPS;
 use sw_search::Tangle;
-use sw_topo::limits::MAX_CHANNELS;
-use sw_topo::{Chan, LinkEnd};
-
-/// How often all link ends may make a step after all packets were placed, at most.
-const MOST_SWEEPS: u32 = 20_000;
 
 /// How often the channels of a way are gone over to place a packet, at most.
 const MOST_ROUNDS: u32 = 20_000;
 
-/// A network in some state, and the schedule of the steps that led there. It is not let go but by `one_try`.
-struct ScheduledNet<'n> {
-    net: Net<'n, SwitchRoutes<'n>, Policy>,
-    unanswered: Unanswered,
-    begun: CommandsBegun,
-    text: String,
-    steps: u32,
-    // Whether a step was made since this was last unset.
-    moved: bool,
-    // Whether memory was wanting. No step is made from then on.
-    failed: bool,
+/// How many circles of channels a try looks at, at most, until there is one for which packets can be placed.
+const MOST_CIRCLES: u32 = 100;
+
+/// Which channels a try makes wait for one another.
+#[derive(Clone, Copy)]
+pub(crate) enum Along {
+    /// Those of a tangle's shortest cycle, with any number of packets.
+    Cycle,
+    /// Those of any circle in a tangle, with no more commands than may be unanswered at once.
+    AnyCircle,
+    /// Any, as it happens: packets of all flows are begun, with no plan.
+    NoCircle,
 }
 
 impl ScheduledNet<'_> {
-    /// Makes the step as often as it is possible and the schedule may have one more, at most so many times.
-    fn repeat(&mut self, alloc: Global, step: Step, most: u32) {
-        for _ in 0..most {
-            if self.failed || self.steps >= MAX_STEPS {
-                break;
-            }
-            match make_step(alloc, &mut self.net, &mut self.unanswered, &step) {
-                Ok(None) => {
-                    self.failed = add_entry(
-                        alloc,
-                        self.net.network(),
-                        &step,
-                        1,
-                        &mut self.text,
-                    ).is_err();
-                    self.steps += 1;
-                    self.moved = true;
-                }
-                Ok(Some(_)) => break,
-                Err(AllocError) => self.failed = true,
-            }
-        }
-    }
-
-    /// Moves characters from a node along a way, and no further: into each channel from the one before it, and to its end.
-    fn advance(&mut self, alloc: Global, node: u16, way: &[Place]) {
-        let mut before = None;
-        for place in way {
-            let channel = place.channel;
-            self.repeat(alloc, Step::Fct(channel), 8);
-            self.repeat(alloc, Step::FctIn(channel), 8);
-            match before {
-                None => self.repeat(alloc, Step::Emit(node), 64),
-                Some(input) => {
-                    self.repeat(alloc, Step::Grant(channel, input), 1);
-                    self.repeat(alloc, Step::Forward(input), 64);
-                }
-            }
-            self.repeat(alloc, Step::Arrive(channel), 64);
-            before = Some(channel);
-        }
-    }
-
     /// Sends the packets one after another, each as far as it comes along its way, and a reply to it from there along its own, until one
     /// is held up at its source.
     fn place_packets(&mut self, alloc: Global, placing: &Placing) {
         for _ in 0..placing.most {
-            self.moved = false;
-            if !self.begun.allows(self.net.network(), placing.flow) {
+            if self.begin(alloc, placing.load).is_none() {
                 break;
             }
-            match placing.cargo.to_vec(alloc) {
-                Ok(cargo) => {
-                    let step = Step::Begin {
-                        flow: placing.flow,
-                        cargo,
-                        end: End::Eop,
-                    };
-                    self.repeat(alloc, step, 1);
-                }
-                Err(AllocError) => self.failed = true,
-            }
-            if !self.moved {
-                break;
-            }
-            self.begun.add(self.net.network(), placing.flow);
             for _ in 0..MOST_ROUNDS {
                 self.moved = false;
                 self.advance(alloc, placing.source, &placing.there);
@@ -130,10 +72,13 @@ impl ScheduledNet<'_> {
             let step = if backwards { count - 1 - turn } else { turn };
             let number = first.wrapping_add(step) % count;
             let mut placing = Placing {
-                flow: 0,
+                load: Load {
+                    flow: 0,
+                    is_command: false,
+                    length: 0,
+                },
                 source: 0,
                 target: 0,
-                cargo: Vec::new(alloc),
                 most: 0,
                 there: Vec::new(alloc),
                 back: Vec::new(alloc),
@@ -153,71 +98,123 @@ impl ScheduledNet<'_> {
         }
     }
 
-    /// Lets the network go on until nothing can: time after time each link end makes a step, if one is possible other than to begin a
-    /// packet, those from a number on first.
-    fn run(&mut self, alloc: Global, random: &mut Random) {
-        let channels = self.net.network().channels();
-        for _ in 0..MOST_SWEEPS {
+    /// Brings the packet of the task, or its reply, to the end of its way, where the target takes so many characters at most.
+    fn bring(&mut self, alloc: Global, task: &Task, most: u32) {
+        let mut left = most;
+        for _ in 0..MOST_ROUNDS {
             self.moved = false;
-            let mut number = random.number(MAX_CHANNELS as u16);
-            for _ in 0..channels {
-                if number >= channels {
-                    number = 0;
-                }
-                if number < self.net.network().channels() {
-                    if let Some(step) = self.net.possible_at(LinkEnd::new(number)) {
-                        self.repeat(alloc, step, 1);
-                    }
-                }
-                number = number.saturating_add(1);
-            }
+            self.advance(alloc, task.node, &task.way);
+            let before = self.steps;
+            self.repeat(alloc, Step::Accept(task.target), left);
+            left = left.saturating_sub(self.steps.saturating_sub(before));
             if !self.moved {
                 break;
             }
         }
     }
+
+    /// Begins the packet of the task, and brings it to the end of its way; the target takes all but its end there, if it is to.
+    fn begin_and_bring(&mut self, alloc: Global, task: &Task, is_taken: bool) {
+        if let Some(count) = self.begin(alloc, task.load) {
+            let most = if is_taken { count } else { 0 };
+            self.bring(alloc, task, most);
+        }
+    }
+
+    /// Does what is to be done after these tasks.
+    fn carry_out(&mut self, alloc: Global, before: &[Task], task: &Task) {
+        match task.action {
+            Action::Park => self.begin_and_bring(alloc, task, false),
+            Action::Send => self.begin_and_bring(alloc, task, !task.meets_another(before)),
+            Action::Take => self.bring(alloc, task, MAX_STEPS),
+            Action::Answer => {
+                self.repeat(alloc, Step::Reply(task.node), 1);
+                self.bring(alloc, task, 0);
+            }
+        }
+    }
+
+    /// Writes for each of the legs what is to hold a channel, and what it is to wait for.
+    fn note_legs(
+        &mut self,
+        alloc: Global,
+        network: &Network,
+        legs: &[Leg],
+    ) -> Result<(), AllocError> {
+        for leg in legs {
+            note_leg(alloc, network, leg, &mut self.text)?;
+        }
+        Ok(())
+    }
+
+    /// Places what makes channels wait for one another in a circle, any one of those to which one comes from the tangle's cycle.
+    fn place_circle(
+        &mut self,
+        alloc: Global,
+        network: &Network,
+        random: &mut Random,
+        tangle: &Tangle,
+    ) -> Result<(), AllocError> {
+        let ways = Ways::new(alloc, network, random)?;
+        let channels = tangle.cycle.channels.as_slice();
+        for _ in 0..MOST_CIRCLES {
+            let Some(start) = channels.get(random.below(channels.len())) else {
+                break;
+            };
+            let legs = any_circle(alloc, network, random, &ways, *start)?;
+            let Some(planned) = planned_tasks(alloc, network, random, &ways, &legs)? else {
+                continue;
+            };
+            let Some(tasks) = ordered(alloc, random, planned)? else {
+                continue;
+            };
+            self.note_legs(alloc, network, &legs)?;
+            for (index, task) in tasks.iter().enumerate() {
+                self.carry_out(alloc, &tasks[..index], task);
+            }
+            break;
+        }
+        Ok(())
+    }
+
+    /// Places what makes channels of the tangle wait for one another.
+    fn place(
+        &mut self,
+        alloc: Global,
+        network: &Network,
+        random: &mut Random,
+        tangle: &Tangle,
+        along: Along,
+    ) {
+        match along {
+            Along::Cycle => self.place_cycle(alloc, network, random, tangle),
+            Along::AnyCircle => {
+                if self.place_circle(alloc, network, random, tangle).is_err() {
+                    self.failed = true;
+                }
+            }
+            Along::NoCircle => match Ways::new(alloc, network, random) {
+                Ok(ways) => self.wander(alloc, network, random, &ways),
+                Err(AllocError) => self.failed = true,
+            },
+        }
+    }
 }
 
-/// One try: a schedule after which the network is locked up, if it came to that. It places what makes the channels of one of the tangles
+/// One try: a schedule after which the network is locked up, if it came to that. It places what makes channels of one of the tangles
 /// wait for one another, and lets the network go on until nothing can.
 pub(crate) fn one_try(
     alloc: Global,
     network: &Network,
     tangles: &[Tangle],
     random: &mut Random,
+    along: Along,
 ) -> Result<Option<String>, AllocError> {
-    let unanswered = Unanswered::new(alloc, network)?;
-    let begun = CommandsBegun::new(alloc, network)?;
-    let mut trial = ScheduledNet {
-        net: declared_net(alloc, network)?,
-        unanswered,
-        begun,
-        text: String::new(alloc),
-        steps: 0,
-        moved: false,
-        failed: false,
-    };
+    let mut trial = ScheduledNet::new(alloc, network)?;
     let number = random.below(tangles.len());
     if let Some(tangle) = tangles.get(number) {
-        trial.place_cycle(alloc, network, random, tangle);
+        trial.place(alloc, network, random, tangle, along);
     }
     trial.run(alloc, random);
-    let ScheduledNet {
-        net,
-        unanswered: _,
-        begun: _,
-        text,
-        steps: _,
-        moved: _,
-        failed,
-    } = trial;
-    let locked = net.quiet() && net.undelivered() > 0;
-    net.discard();
-    if failed {
-        Err(AllocError)
-    } else if locked {
-        Ok(Some(text))
-    } else {
-        Ok(None)
-    }
+    trial.finish()
 }
