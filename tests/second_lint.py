@@ -93,10 +93,14 @@ class Lint:
                 flow = self.network.flows[number][0]
                 yield f"the group for {self.told(s, e)} may lead packets of {flow} back over port {port} by which they come"
 
+    def are_opposed(self, one, other):
+        """Whether they are two targets one of which does not always take what comes."""
+        return one != other and bool({one, other} & self.network.waiting)
+
     def shared(self):
         for link in range(len(self.starts) // 2):
             over = [[f for f in sorted(self.replied) if any(c == channel for c, _ in self.places[f])] for channel in (2 * link, 2 * link + 1)]
-            pair = next(((f, g) for f in over[0] for g in over[1] if self.network.flows[f][2] != self.network.flows[g][2]), None)
+            pair = next(((f, g) for f in over[0] for g in over[1] if self.are_opposed(self.network.flows[f][2], self.network.flows[g][2])), None)
             if pair:
                 told = [f"{self.network.flows[it][0]} to {self.nodes[self.network.flows[it][2]]}" for it in pair]
                 yield f"commands of {told[0]} go over {self.channel_text(2 * link)} and of {told[1]} the other way: while both targets answer, each can wait for the other"

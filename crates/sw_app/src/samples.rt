@@ -4,11 +4,13 @@ ghost use Rattle.sw_app.specs.Samples.{sample_named, sample_text};
 
 mod bus;
 mod housekeeping;
+mod limits;
 mod regions;
 mod ring;
 
 use bus::BUS;
 use housekeeping::HOUSEKEEPING;
+use limits::LIMITS;
 use regions::REGIONS;
 use ring::RING;
 
@@ -23,9 +25,11 @@ pub enum Sample {
     Housekeeping,
     /// Units in three regions, by regional addresses.
     Regions,
+    /// An instrument bus whose units limit how many of their commands are unanswered.
+    Limits,
 }
 
-/// The sample of that name: `bus`, as where none is given, `ring`, `housekeeping` or `regions`. There is no fifth.
+/// The sample of that name: `bus`, as where none is given, `ring`, `housekeeping`, `regions` or `limits`. There is no sixth.
 pub fn sample_named(name: Option<&str>) -> Option<Sample>
     ensures { result ≡ sample_named (option_map (λ s. s.now) name.entry) }
 {
@@ -44,6 +48,9 @@ pub fn sample_named(name: Option<&str>) -> Option<Sample>
     if word == "regions" {
         return Some(Sample::Regions);
     }
+    if word == "limits" {
+        return Some(Sample::Limits);
+    }
     None
 }
 
@@ -56,5 +63,6 @@ pub(crate) fn sample_text(sample: Sample) -> &'static str
         Sample::Ring => RING,
         Sample::Housekeeping => HOUSEKEEPING,
         Sample::Regions => REGIONS,
+        Sample::Limits => LIMITS,
     }
 }

@@ -16,15 +16,16 @@ use Rattle.sw_flow.specs.Places.IsPlace.{start, next}
 use Rattle.sw_flow.proofs.Listed.{Contains-cases, Contains-from_map, Contains-head, Contains-later}
 use Rattle.sw_linter.specs.Alike.{IsLikeLast}
 use Rattle.sw_linter.specs.FlowPlaces.{FlowPlace, AreFlowPlaces, places_of_flow}
-use Rattle.sw_linter.specs.Lints.{asks_on, goes_elsewhere}
-use Rattle.sw_linter.specs.Marks.{AreNoted, MarkLists, arrival_key, asking_key, end_key, in_row, is_other, led_key, marked, no_places, note_at, noted, other_key, start_key, switch_at, with_place}
+use Rattle.sw_linter.specs.Lints.{asks_on}
+use Rattle.sw_linter.specs.Marks.{AreNoted, MarkLists, arrival_key, asker, asking_key, end_key, in_row, is_other, is_same_wait, led_key, marked, no_places, note_at, noted, other_key, start_key, switch_at, waits_at, with_place}
 use Rattle.sw_graph.specs.Rounds.{is_marked}
 use Rattle.sw_linter.specs.declared.asking.Asking.{Asking}
 use Rattle.sw_linter.proofs.Ranges.{take_one_more}
 use Rattle.sw_linter.proofs.Tests.{any_passes}
 use Rattle.sw_linter.proofs.TableSteps.{Marked, Noted, is_key}
-use Rattle.sw_linter.proofs.Noting.{AreMarks, asker, asks_key, key_given, marks_of, number_of, other_of, places_more}
+use Rattle.sw_linter.proofs.Noting.{AreMarks, asks_key, key_given, marks_of, number_of, other_of, places_more}
 use Rattle.sw_linter.proofs.Members.{joined_has}
+use Rattle.sw_linter.proofs.Waits.{elsewhere, waits}
 use Rattle.sw_topo.proofs.Lists.{is_some-map}
 
 -- ---- tables
@@ -83,30 +84,30 @@ module _ (d : Declaration) (all : List FlowPlace) (m : MarkLists) (a : AreMarks 
   asked_there : (c : ℕ) → asks_on c v ≡ true → asks_on c w ≡ true
   asked_there c is = asks_same c ∙ is
 
-  asking_again : noted (asking_key v) (asker v) m.asking ≡ m.asking
-  asking_again = nothing_noted (asking_key v) (asker v) m.asking (λ k lt is.
-      ap is_some (a.asking k (omega (arith, lt, a.long_asking))) ∙ is_some-map asker (find (asks_on k) all)
+  asking_again : noted (asking_key v) (asker d v) m.asking ≡ m.asking
+  asking_again = nothing_noted (asking_key v) (asker d v) m.asking (λ k lt is.
+      ap is_some (a.asking k (omega (arith, lt, a.long_asking))) ∙ is_some-map (asker d) (find (asks_on k) all)
       ∙ find_some (asks_on k) all w has (asked_there k (sym (asks_key k v) ∙ is)))
 
-  -- the first flow to another target than the first one's is there, where this one goes to another
-  other_there : (c : ℕ) → asks_on c v ≡ true → (o : Option FlowPlace) → find (asks_on c) all ≡ o → is_other (option_map asker o) v.flow.to ≡ true → is_some (other_of all c) ≡ true
+  -- the first flow whose commands may have to wait elsewhere is there, where those of this one may
+  other_there : (c : ℕ) → asks_on c v ≡ true → (o : Option FlowPlace) → find (asks_on c) all ≡ o → is_other (option_map (asker d) o) (waits d v) ≡ true → is_some (other_of d all c) ≡ true
   other_there c asks None found never = absurd (false≢true never)
-  other_there c asks (Some u) found elsewhere =
-      let p : FlowPlace → Bool = λ x. asks_on c x && goes_elsewhere u x in
-      let passes : p w ≡ true = ap₂ (λ b (t : ℕ). b && not (t == u.flow.to)) (asked_there c asks) same.to ∙ elsewhere in
+  other_there c asks (Some u) found other =
+      let p : FlowPlace → Bool = λ x. asks_on c x && elsewhere d u x in
+      let passes : p w ≡ true = ap₂ (λ b (t : ℕ). b && not (is_same_wait (waits_at d t) (waits d u))) (asked_there c asks) same.to ∙ other in
       ap (λ (o : Option FlowPlace). is_some (option_map_then c o)) found ∙ is_some-map number_of (find p all) ∙ find_some p all w has passes
     where
       option_map_then : ℕ → Option FlowPlace → Option ℕ
       option_map_then k None = None
-      option_map_then k (Some x) = option_map number_of (find (λ y. asks_on k y && goes_elsewhere x y) all)
+      option_map_then k (Some x) = option_map number_of (find (λ y. asks_on k y && elsewhere d x y) all)
 
-  other_again : noted (other_key m.asking v) v.number m.other ≡ m.other
-  other_again = nothing_noted (other_key m.asking v) v.number m.other (λ k lt is.
-      let parts = and_parts (asks_on k v) (is_other (note_at m.asking v.place.channel) v.flow.to) (sym (key_given k v.place.channel (is_some v.flow.reply) (is_other (note_at m.asking v.place.channel) v.flow.to)) ∙ is) in
+  other_again : noted (other_key d m.asking v) v.number m.other ≡ m.other
+  other_again = nothing_noted (other_key d m.asking v) v.number m.other (λ k lt is.
+      let parts = and_parts (asks_on k v) (is_other (note_at m.asking v.place.channel) (waits d v)) (sym (key_given k v.place.channel (is_some v.flow.reply) (is_other (note_at m.asking v.place.channel) (waits d v))) ∙ is) in
       let here : v.place.channel ≡ k = eqb-true v.place.channel k (and_parts (is_some v.flow.reply) (v.place.channel == k) parts.0).1 in
       let inside : k < length (ends_of d) = omega (arith, lt, a.long_other) in
-      let other : is_other (option_map asker (find (asks_on k) all)) v.flow.to ≡ true =
-      ap (λ (o : Option Asking). is_other o v.flow.to) (sym (a.asking k inside) ∙ ap (note_at m.asking) (sym here)) ∙ parts.1 in
+      let other : is_other (option_map (asker d) (find (asks_on k) all)) (waits d v) ≡ true =
+      ap (λ (o : Option Asking). is_other o (waits d v)) (sym (a.asking k inside) ∙ ap (note_at m.asking) (sym here)) ∙ parts.1 in
       ap is_some (a.other k inside) ∙ other_there k parts.0 (find (asks_on k) all) refl other)
 
   place_again : with_place d m v ≡ m

@@ -11,9 +11,9 @@ use Rattle.sw_flow.proofs.Listed.{Contains-head}
 use Rattle.sw_linter.specs.declared.lint.Lint.{Lint}
 use Rattle.sw_linter.specs.declared.lint.Lint.TheVariants.{NoFlows, UnusedNode, UnusedSwitch, UnusedTarget, UnusedEntry, OneLinkedPort, LeadsBack, Opposed}
 use Rattle.sw_linter.specs.FlowPlaces.{FlowPlace}
-use Rattle.sw_linter.specs.Lints.{asks_on, back_by, by_entries, by_nodes, by_switches, doubtful, first_back, first_made, first_opposed, is_group, is_idle_target, is_used_entry, is_used_node, is_used_switch, leads_back, linked, lints_of, one_linked_port, only, opposed, goes_elsewhere, told_of, unused, unused_entries, unused_entry, unused_node, unused_switch, unused_target}
-use Rattle.sw_linter.specs.LintTexts.{lint_text}
-use Rattle.sw_linter.specs.Laws.{LintTextsAreDetermined, LintsAreDetermined, NoFlowsIsToldAlone}
+use Rattle.sw_linter.specs.Lints.{asks_on, back_by, by_entries, by_nodes, by_switches, can_block, doubtful, first_back, first_made, first_opposed, is_group, is_idle_target, is_used_entry, is_used_node, is_used_switch, leads_back, linked, lints_of, one_linked_port, only, opposed, told_of, unused, unused_entries, unused_entry, unused_node, unused_switch, unused_target}
+use Rattle.sw_linter.specs.LintTexts.{lint_text, note_text}
+use Rattle.sw_linter.specs.Laws.{LintTextsAreDetermined, LintsAreDetermined, NoFlowsIsToldAlone, NoteTextsAreDetermined}
 use Rattle.sw_linter.proofs.OneList.{same_all}
 use Rattle.sw_linter.proofs.Tests.{any_passes}
 
@@ -22,6 +22,9 @@ lints_determined d told other a b = a.told ∙ ap (lints_of d) (same_all d (all_
 
 pub texts_determined : LintTextsAreDetermined
 texts_determined d told other a b = a.worded ∙ ap (map (lint_text d)) (lints_determined d a.lints b.lints a.told b.told) ∙ sym b.worded
+
+pub notes_determined : NoteTextsAreDetermined
+notes_determined d told other a b = a.worded ∙ ap (map (note_text d)) (lints_determined d a.lints b.lints a.told b.told) ∙ sym b.worded
 
 -- ---- that there are no flows is told alone
 
@@ -71,9 +74,9 @@ quiet_kinds d all =
     (quiet_append (by_switches d (λ s. by_entries d (leads_back d all s) s)) _ (quiet_all (λ s. by_entries d (leads_back d all s) s) (range_with_len 0 (length d.switches)) (λ s.
     quiet_all (λ e. leads_back d all s e.0 e.1) (enumerate_from 0 (routes_of d.switches s)) (λ e. quiet_if (is_group (linked d s e.1)) (option_to_list (first_back d all s e.0 e.1)) []
     (quiet_first (λ port. option_map (λ flow. LeadsBack s e.0 port flow) (back_by d all s e.1 port)) (ports_of e.1.ports) (λ port. quiet_mapped (λ flow. LeadsBack s e.0 port flow) (back_by d all s e.1 port) (λ flow. refl))) refl)))
-    (quiet_all (opposed all) (range_with_len 0 (length d.links)) (λ link.
-    quiet_first (first_opposed all link (2 * link + 1)) (filter (asks_on (2 * link)) all) (λ v.
-    quiet_mapped (λ w. Opposed link v.number w.number) (find (λ w. asks_on (2 * link + 1) w && goes_elsewhere v w) all) (λ w. refl))))))
+    (quiet_all (opposed d all) (range_with_len 0 (length d.links)) (λ link.
+    quiet_first (first_opposed d all link (2 * link + 1)) (filter (asks_on (2 * link)) all) (λ v.
+    quiet_mapped (λ w. Opposed link v.number w.number) (find (λ w. asks_on (2 * link + 1) w && can_block d v w) all) (λ w. refl))))))
 
 pub alone : NoFlowsIsToldAlone
 alone d told a = record { exactly = (to d.flows refl a.told, λ none. subst (λ (l : List Lint). Contains l NoFlows) (sym (only_that none)) (Contains-head NoFlows [])); alone = only_that }

@@ -1,6 +1,7 @@
 pub mod Ranges
 pub mod Tests
 pub mod TableSteps
+pub mod Waits
 pub mod Noting
 pub mod Members
 pub mod Again

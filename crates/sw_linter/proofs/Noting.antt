@@ -1,5 +1,5 @@
 -- What is noted of the places of flows says what holds of them.
-use Rattle.std.proofs.Common.{◌≡◌, ℕ, ◌+◌, ◌*◌, ◌<◌, ◌≤◌, All, Bool, true, false, ◌&&◌, not, List, [], ◌∷◌, ◌++◌, length, get_or, take, Bor, IfSome, MatchOption, Option, Some, None, refl, sym, ap, ap₂, ◌∙◌, subst, arith, eq-eqb, ltb, ltb-true, append-nil, append_assoc}
+use Rattle.std.proofs.Common.{◌≡◌, ℕ, ◌+◌, ◌*◌, ◌<◌, ◌≤◌, All, Bool, true, false, ◌&&◌, not, List, [], ◌∷◌, ◌++◌, length, get_or, take, Bor, IfSome, MatchOption, Option, Some, None, refl, sym, ap, ap₂, ◌∙◌, subst, arith, ltb, ltb-true, append-nil, append_assoc}
 use Rattle.std.specs.Prelude.{◌==◌, find, fold, is_some, option_and_then, option_map, slice_get, if◌then◌else◌}
 use Rattle.std.specs.Option.{option_copied}
 use Rattle.std.proofs.lemmas.Bool.{and_parts, eqb-true}
@@ -15,9 +15,10 @@ use Rattle.sw_flow.specs.Places.{ends_of, IsPlaceList, IsPlacesOf}
 use Rattle.sw_flow.proofs.Stepping.{places_are_in}
 use Rattle.sw_linter.specs.declared.asking.Asking.{Asking}
 use Rattle.sw_linter.specs.FlowPlaces.{FlowPlace, AreFlowPlaces, joined, places_of_flow}
-use Rattle.sw_linter.specs.Lints.{asks_on, goes_elsewhere}
-use Rattle.sw_linter.specs.Marks.{AreNoted, IsFlowNoted, MarkLists, NodeLists, arrival_key, asking_key, end_key, is_other, led_key, no_nodes, no_places, nodes_of, note_at, noted, other_key, start_key, with_flow, with_place}
+use Rattle.sw_linter.specs.Lints.{asks_on}
+use Rattle.sw_linter.specs.Marks.{AreNoted, IsFlowNoted, MarkLists, NodeLists, arrival_key, asker, asking_key, end_key, is_other, led_key, no_nodes, no_places, nodes_of, note_at, noted, other_key, start_key, with_flow, with_place}
 use Rattle.sw_linter.proofs.Ranges.{take_one_more}
+use Rattle.sw_linter.proofs.Waits.{elsewhere, itself, waits}
 use Rattle.sw_linter.proofs.Tests.{find_push}
 use Rattle.sw_linter.proofs.TableSteps.{Marked, Noted, is_key, length-marked, length-noted, mapped_first, marked_more, marked_none, noted_at, noted_more, noted_none}
 use Rattle.sw_topo.proofs.TableSteps.{first_alone}
@@ -63,12 +64,9 @@ nodes_noted d = all_nodes d [] d.flows (no_nodes d) (record {
 abbrev pub number_of : FlowPlace → ℕ
 number_of v = v.number
 
-abbrev pub asker : FlowPlace → Asking
-asker v = record { number = v.number; to = v.flow.to }
-
--- the first flow with a reply on channel c that goes to another target than the first one's
-abbrev pub other_of : List FlowPlace → ℕ → Option ℕ
-other_of all c = option_and_then (λ v. option_map number_of (find (λ w. asks_on c w && goes_elsewhere v w) all)) (find (asks_on c) all)
+-- the first flow with a reply on channel c whose commands may have to wait elsewhere than the first one's
+abbrev pub other_of : Declaration → List FlowPlace → ℕ → Option ℕ
+other_of d all c = option_and_then (λ v. option_map number_of (find (λ w. asks_on c w && elsewhere d v w) all)) (find (asks_on c) all)
 
 pub record AreMarks (d : Declaration) (all : List FlowPlace) (m : MarkLists) : Type 0 where
   pub long_starts : length m.starts ≡ length d.switches
@@ -81,8 +79,8 @@ pub record AreMarks (d : Declaration) (all : List FlowPlace) (m : MarkLists) : T
   pub ends : Marked (end_key d) all m.ends
   pub arrivals : Marked (arrival_key d) all m.arrivals
   pub led : Noted led_key number_of all m.led
-  pub asking : (c : ℕ) → c < length (ends_of d) → note_at m.asking c ≡ option_map asker (find (asks_on c) all)
-  pub other : (c : ℕ) → c < length (ends_of d) → note_at m.other c ≡ other_of all c
+  pub asking : (c : ℕ) → c < length (ends_of d) → note_at m.asking c ≡ option_map (asker d) (find (asks_on c) all)
+  pub other : (c : ℕ) → c < length (ends_of d) → note_at m.other c ≡ other_of d all c
 
 pub asks_key : (c : ℕ) (v : FlowPlace) → is_key c (asking_key v) ≡ asks_on c v
 asks_key c v = by (is_some v.flow.reply)
@@ -91,7 +89,7 @@ asks_key c v = by (is_some v.flow.reply)
     by true = refl
     by false = refl
 
--- ---- the first flow to another target
+-- ---- the first flow whose commands may have to wait elsewhere
 
 on_same : {A B : Type 0} (f g : A → Option B) (o : Option A) → ((x : A) → f x ≡ g x) → option_and_then f o ≡ option_and_then g o
 on_same f g None same = refl
@@ -119,57 +117,57 @@ key_given c ch true false = by (ch == c)
     by false = refl
 key_given c ch false b = refl
 
-module _ (asking : List (Option Asking)) (other : List (Option ℕ)) (all : List FlowPlace) (v : FlowPlace) (c : ℕ) (lt : c < length other) (so_far : note_at other c ≡ other_of all c) where
+module _ (d : Declaration) (asking : List (Option Asking)) (other : List (Option ℕ)) (all : List FlowPlace) (v : FlowPlace) (c : ℕ) (lt : c < length other) (so_far : note_at other c ≡ other_of d all c) where
   abbrev later : List FlowPlace
   later = all ++ v ∷ []
 
   abbrev inner : FlowPlace → List FlowPlace → Option ℕ
-  inner w vs = option_map number_of (find (λ x. asks_on c x && goes_elsewhere w x) vs)
+  inner w vs = option_map number_of (find (λ x. asks_on c x && elsewhere d w x) vs)
 
   -- what is noted there then, by the test of the key
-  noted_there : note_at (noted (other_key asking v) v.number other) c ≡ first_of (other_of all c) (if asks_on c v && is_other (note_at asking v.place.channel) v.flow.to then Some v.number else None)
+  noted_there : note_at (noted (other_key d asking v) v.number other) c ≡ first_of (other_of d all c) (if asks_on c v && is_other (note_at asking v.place.channel) (waits d v) then Some v.number else None)
   noted_there =
-      noted_at (other_key asking v) v.number other c lt ∙ ap (λ (o : Option ℕ). first_of o (if is_key c (other_key asking v) then Some v.number else None)) so_far
-      ∙ ap (λ b. first_of (other_of all c) (if b then Some v.number else None)) (key_given c v.place.channel (is_some v.flow.reply) (is_other (note_at asking v.place.channel) v.flow.to))
+      noted_at (other_key d asking v) v.number other c lt ∙ ap (λ (o : Option ℕ). first_of o (if is_key c (other_key d asking v) then Some v.number else None)) so_far
+      ∙ ap (λ b. first_of (other_of d all c) (if b then Some v.number else None)) (key_given c v.place.channel (is_some v.flow.reply) (is_other (note_at asking v.place.channel) (waits d v)))
 
-  inner_push : (w : FlowPlace) → inner w later ≡ first_of (inner w all) (if asks_on c v && goes_elsewhere w v then Some v.number else None)
+  inner_push : (w : FlowPlace) → inner w later ≡ first_of (inner w all) (if asks_on c v && elsewhere d w v then Some v.number else None)
   inner_push w =
-      let p : FlowPlace → Bool = λ x. asks_on c x && goes_elsewhere w x in
+      let p : FlowPlace → Bool = λ x. asks_on c x && elsewhere d w x in
       ap (option_map number_of) (find_push p all v) ∙ sym (mapped_first number_of (find p all) v (p v))
 
-  not_asking : asks_on c v ≡ false → note_at (noted (other_key asking v) v.number other) c ≡ other_of later c
+  not_asking : asks_on c v ≡ false → note_at (noted (other_key d asking v) v.number other) c ≡ other_of d later c
   not_asking is =
       let gone : find (asks_on c) later ≡ find (asks_on c) all = find_push (asks_on c) all v ∙ ap (λ b. first_of (find (asks_on c) all) (if b then Some v else None)) is ∙ first_alone (find (asks_on c) all) in
-      let each : (w : FlowPlace) → inner w later ≡ inner w all = λ w. inner_push w ∙ ap (λ b. first_of (inner w all) (if b && goes_elsewhere w v then Some v.number else None)) is ∙ first_alone (inner w all) in
-      noted_there ∙ ap (λ b. first_of (other_of all c) (if b && is_other (note_at asking v.place.channel) v.flow.to then Some v.number else None)) is ∙ first_alone (other_of all c)
+      let each : (w : FlowPlace) → inner w later ≡ inner w all = λ w. inner_push w ∙ ap (λ b. first_of (inner w all) (if b && elsewhere d w v then Some v.number else None)) is ∙ first_alone (inner w all) in
+      noted_there ∙ ap (λ b. first_of (other_of d all c) (if b && is_other (note_at asking v.place.channel) (waits d v) then Some v.number else None)) is ∙ first_alone (other_of d all c)
       ∙ sym (ap (option_and_then (λ w. inner w later)) gone ∙ on_same (λ w. inner w later) (λ w. inner w all) (find (asks_on c) all) each)
 
-  differs_not : goes_elsewhere v v ≡ false
-  differs_not = ap not (eq-eqb v.flow.to v.flow.to refl)
+  differs_not : elsewhere d v v ≡ false
+  differs_not = ap not (itself (waits d v))
 
-  asking_too : asks_on c v ≡ true → (o : Option FlowPlace) → find (asks_on c) all ≡ o → note_at asking v.place.channel ≡ option_map asker o → note_at (noted (other_key asking v) v.number other) c ≡ other_of later c
+  asking_too : asks_on c v ≡ true → (o : Option FlowPlace) → find (asks_on c) all ≡ o → note_at asking v.place.channel ≡ option_map (asker d) o → note_at (noted (other_key d asking v) v.number other) c ≡ other_of d later c
   asking_too is None found noted_one =
-      let before : other_of all c ≡ None = ap (option_and_then (λ w. inner w all)) found in
+      let before : other_of d all c ≡ None = ap (option_and_then (λ w. inner w all)) found in
       let first : find (asks_on c) later ≡ Some v = find_push (asks_on c) all v ∙ ap₂ (λ (o : Option FlowPlace) b. first_of o (if b then Some v else None)) found is in
-      let none : inner v all ≡ None = ap (option_map number_of) (none_more (asks_on c) (goes_elsewhere v) all found) in
+      let none : inner v all ≡ None = ap (option_map number_of) (none_more (asks_on c) (elsewhere d v) all found) in
       let inside : inner v later ≡ None = inner_push v ∙ ap₂ (λ (o : Option ℕ) b. first_of o (if asks_on c v && b then Some v.number else None)) none differs_not ∙ ap (λ b. if b && false then Some v.number else None) is in
-      noted_there ∙ ap₂ (λ (o : Option ℕ) (a : Option Asking). first_of o (if asks_on c v && is_other a v.flow.to then Some v.number else None)) before noted_one ∙ ap (λ b. if b && false then Some v.number else None) is
+      noted_there ∙ ap₂ (λ (o : Option ℕ) (a : Option Asking). first_of o (if asks_on c v && is_other a (waits d v) then Some v.number else None)) before noted_one ∙ ap (λ b. if b && false then Some v.number else None) is
       ∙ sym (ap (option_and_then (λ w. inner w later)) first ∙ inside)
   asking_too is (Some w) found noted_one =
-      let before : other_of all c ≡ inner w all = ap (option_and_then (λ u. inner u all)) found in
+      let before : other_of d all c ≡ inner w all = ap (option_and_then (λ u. inner u all)) found in
       let first : find (asks_on c) later ≡ Some w = find_push (asks_on c) all v ∙ ap (λ (o : Option FlowPlace). first_of o (if asks_on c v then Some v else None)) found in
-      noted_there ∙ ap₂ (λ (o : Option ℕ) (a : Option Asking). first_of o (if asks_on c v && is_other a v.flow.to then Some v.number else None)) before noted_one
+      noted_there ∙ ap₂ (λ (o : Option ℕ) (a : Option Asking). first_of o (if asks_on c v && is_other a (waits d v) then Some v.number else None)) before noted_one
       ∙ sym (inner_push w) ∙ sym (ap (option_and_then (λ u. inner u later)) first)
 
-  pub other_more : (v.place.channel ≡ c → note_at asking v.place.channel ≡ option_map asker (find (asks_on v.place.channel) all)) → note_at (noted (other_key asking v) v.number other) c ≡ other_of later c
+  pub other_more : (v.place.channel ≡ c → note_at asking v.place.channel ≡ option_map (asker d) (find (asks_on v.place.channel) all)) → note_at (noted (other_key d asking v) v.number other) c ≡ other_of d later c
   other_more noted_one = by (asks_on c v) refl
     where
       here : asks_on c v ≡ true → v.place.channel ≡ c
       here is = eqb-true v.place.channel c (and_parts (is_some v.flow.reply) (v.place.channel == c) is).1
 
-      by : (b : Bool) → asks_on c v ≡ b → note_at (noted (other_key asking v) v.number other) c ≡ other_of later c
+      by : (b : Bool) → asks_on c v ≡ b → note_at (noted (other_key d asking v) v.number other) c ≡ other_of d later c
       by false is = not_asking is
-      by true is = asking_too is (find (asks_on c) all) refl (noted_one (here is) ∙ ap (λ k. option_map asker (find (asks_on k) all)) (here is))
+      by true is = asking_too is (find (asks_on c) all) refl (noted_one (here is) ∙ ap (λ k. option_map (asker d) (find (asks_on k) all)) (here is))
 
 -- ---- one place more
 
@@ -179,17 +177,17 @@ marks_more d all v m a = record {
   long_ends = length-marked (end_key d v) m.ends ∙ a.long_ends;
   long_arrivals = length-marked (arrival_key d v) m.arrivals ∙ a.long_arrivals;
   long_led = length-noted (led_key v) v.number m.led ∙ a.long_led;
-  long_asking = length-noted (asking_key v) (asker v) m.asking ∙ a.long_asking;
-  long_other = length-noted (other_key m.asking v) v.number m.other ∙ a.long_other;
+  long_asking = length-noted (asking_key v) (asker d v) m.asking ∙ a.long_asking;
+  long_other = length-noted (other_key d m.asking v) v.number m.other ∙ a.long_other;
   starts = marked_more (start_key d) all v m.starts a.starts;
   ends = marked_more (end_key d) all v m.ends a.ends;
   arrivals = marked_more (arrival_key d) all v m.arrivals a.arrivals;
   led = noted_more led_key number_of all v m.led a.led;
   asking = λ c lt.
       let p : FlowPlace → Bool = asks_on c in
-      noted_at (asking_key v) (asker v) m.asking c (omega (arith, a.long_asking)) ∙ ap₂ (λ (o : Option Asking) b. first_of o (if b then Some (asker v) else None)) (a.asking c lt) (asks_key c v)
-      ∙ mapped_first asker (find p all) v (p v) ∙ ap (option_map asker) (sym (find_push p all v));
-  other = λ c lt. other_more m.asking m.other all v c (omega (arith, a.long_other)) (a.other c lt) (λ here. a.asking v.place.channel (omega arith));
+      noted_at (asking_key v) (asker d v) m.asking c (omega (arith, a.long_asking)) ∙ ap₂ (λ (o : Option Asking) b. first_of o (if b then Some (asker d v) else None)) (a.asking c lt) (asks_key c v)
+      ∙ mapped_first (asker d) (find p all) v (p v) ∙ ap (option_map (asker d)) (sym (find_push p all v));
+  other = λ c lt. other_more d m.asking m.other all v c (omega (arith, a.long_other)) (a.other c lt) (λ here. a.asking v.place.channel (omega arith));
 }
 
 pub all_marks : (d : Declaration) (seen rest : List FlowPlace) (m : MarkLists) → AreMarks d seen m → AreMarks d (seen ++ rest) (fold (with_place d) m rest)

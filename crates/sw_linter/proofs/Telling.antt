@@ -20,10 +20,10 @@ use Rattle.sw_linter.specs.declared.lint.Lint.{Lint}
 use Rattle.sw_linter.specs.declared.lint.Lint.TheVariants.{LeadsBack, NoFlows, UnusedEntry, UnusedNode, UnusedSwitch, UnusedTarget}
 use Rattle.sw_linter.specs.FlowPlaces.{FlowPlace, AreFlowPlaces}
 use Rattle.sw_linter.specs.Lints.{AreLints, addresses, asks_on, back_by, by_entries, comes_by, comes_to, doubtful, first_by, first_pair, is_group, is_matched, is_used_entry, is_used_switch, leads_back, linked, one_linked_port, opposed, starts_at, told_of, unused, unused_entries, unused_entry, unused_node, unused_switch, unused_target}
-use Rattle.sw_linter.specs.Marks.{AreFound, MarkLists, arrival_key, back_at, doubtful_by, end_key, first_led, led_key, no_places, start_key, with_place, is_met_by, is_used_by, leads_back_by, nodes_of, note_at, opposed_by, pair_by, pair_of, unused_by, unused_entry_by, unused_node_by, unused_switch_by, unused_target_by}
+use Rattle.sw_linter.specs.Marks.{AreFound, MarkLists, arrival_key, asker, back_at, doubtful_by, end_key, first_led, led_key, no_places, start_key, with_place, is_met_by, is_used_by, leads_back_by, nodes_of, note_at, opposed_by, pair_by, pair_of, unused_by, unused_entry_by, unused_node_by, unused_switch_by, unused_target_by}
 use Rattle.sw_graph.specs.Rounds.{is_marked}
 use Rattle.sw_linter.proofs.Keys.{arrives_key, comes_key, comes_not, ends_key, leads, matched, starts_key}
-use Rattle.sw_linter.proofs.Noting.{AreMarks, asker, marks_of, no_flow_places, nodes_noted, number_of}
+use Rattle.sw_linter.proofs.Noting.{AreMarks, marks_of, no_flow_places, nodes_noted, number_of}
 use Rattle.sw_linter.proofs.Pairs.{pair_told}
 use Rattle.sw_linter.proofs.Ranges.{first_made_none, first_made_same, first_made_shifted, flat_map_same, list_any_shifted, made_if, made_same}
 use Rattle.sw_linter.proofs.TableSteps.{is_key}
@@ -91,14 +91,14 @@ module _ (d : Declaration) (valid : IsValid d) (all : List FlowPlace) (m : MarkL
           let small : b < 255 = omega arith in
           a.led (256 * partner c + b) (omega (arith, a.long_led)) ∙ ap (option_map number_of) (find_same (λ v. is_key (256 * partner c + b) (led_key v)) (comes_by d s port b) all (λ v. comes_key d valid.sound s port c b v out small)))
 
-  pair_same : (link : ℕ) → link < length d.links → pair_by m link ≡ first_pair all link
+  pair_same : (link : ℕ) → link < length d.links → pair_by m link ≡ first_pair d all link
   pair_same link lt =
       let even = length-link_ends d.links in
       let on_a : 2 * link < length (ends_of d) = omega arith in
       let on_b : 2 * link + 1 < length (ends_of d) = omega arith in
       ap₂ (λ (x : Option Asking) (y : Option Asking). pair_of link x y (note_at m.other (2 * link)) (note_at m.other (2 * link + 1))) (a.asking (2 * link) on_a) (a.asking (2 * link + 1) on_b)
-      ∙ ap₂ (λ (x : Option ℕ) (y : Option ℕ). pair_of link (option_map asker (find (asks_on (2 * link)) all)) (option_map asker (find (asks_on (2 * link + 1)) all)) x y) (a.other (2 * link) on_a) (a.other (2 * link + 1) on_b)
-      ∙ pair_told all link (2 * link) (2 * link + 1)
+      ∙ ap₂ (λ (x : Option ℕ) (y : Option ℕ). pair_of link (option_map (asker d) (find (asks_on (2 * link)) all)) (option_map (asker d) (find (asks_on (2 * link + 1)) all)) x y) (a.other (2 * link) on_a) (a.other (2 * link + 1) on_b)
+      ∙ pair_told d all link (2 * link) (2 * link + 1)
 
   unused_same : unused_by d (nodes_of d) m ≡ unused d all
   unused_same =
@@ -121,7 +121,7 @@ module _ (d : Declaration) (valid : IsValid d) (all : List FlowPlace) (m : MarkL
       ap (λ (o : Option Lint). if is_group (linked d s r) then option_to_list o else [])
       (first_made_same (λ port. option_map (λ flow. LeadsBack s e port flow) (back_at d m s r port)) (λ port. option_map (λ flow. LeadsBack s e port flow) (back_by d all s r port)) (ports_of r.ports)
       (λ port. ap (option_map (λ flow. LeadsBack s e port flow)) (back_same s r port (route_is d s r valid h)))))) in
-      let links = flat_map_same (opposed_by m) (opposed all) 0 (length d.links) (λ link low lt. ap option_to_list (pair_same link (omega arith))) in
+      let links = flat_map_same (opposed_by m) (opposed d all) 0 (length d.links) (λ link low lt. ap option_to_list (pair_same link (omega arith))) in
       ap₂ (λ k l. (flat_map (λ s. by_entries d (one_linked_port d s) s) (range_with_len 0 (length d.switches))) ++ (k ++ l)) backs links
 
 -- where there are flows

@@ -3,7 +3,7 @@ use Rattle.std.proofs.Common.{◌≡◌, ◌≢◌, ℕ, ◌+◌, ◌*◌, Bool,
 use Rattle.std.specs.Prelude.{◌↔◌, ◌==◌, find, is_some, option_map, slice_get, if◌then◌else◌}
 use Rattle.std.specs.List.{list_any}
 use Rattle.std.specs.Option.{option_map_or}
-use Rattle.std.proofs.lemmas.Bool.{and_from, and_parts, eqb-true, false≢true, leb-true, le-leb, ne_eqb, or_cases, or_left, or_right}
+use Rattle.std.proofs.lemmas.Bool.{and_from, and_parts, eqb-true, false≢true, leb-true, le-leb, ne_eqb, not-true, or_cases, or_left, or_right}
 use Rattle.sw_topo.specs.Checked.{first_of}
 use Rattle.sw_topo.specs.Ports.{ports_of}
 use Rattle.sw_topo.specs.Wiring.{is_at_switch, is_port}
@@ -12,13 +12,17 @@ use Rattle.sw_topo.specs.declared.place.PlaceEnd.TheVariants.{Switch}
 use Rattle.sw_topo.proofs.Ends.{port_is, switch_is}
 use Rattle.sw_route.specs.declared.look.Route.{Route}
 use Rattle.sw_route.specs.Looks.{covers}
-use Rattle.sw_config.specs.Entries.{Declaration}
+use Rattle.sw_config.specs.Entries.{Declaration, is_answering}
+use Rattle.sw_config.specs.Limits.{HasNoLimits, always_takes, may_make_wait}
+use Rattle.sw_config.specs.Valid.{IsValid}
+use Rattle.sw_config.proofs.AnsweringNodes.{answers}
+use Rattle.sw_config.proofs.Limits.{never_takes}
 use Rattle.sw_flow.specs.Places.{end_of, ends_of}
 use Rattle.sw_linter.specs.declared.lint.Lint.{Lint}
 use Rattle.sw_linter.specs.declared.lint.Lint.TheVariants.{LeadsBack, Opposed}
 use Rattle.sw_linter.specs.FlowPlaces.{FlowPlace, AreAllPlaces, leading_byte}
-use Rattle.sw_linter.specs.Lints.{addresses, asks_on, back_by, comes_by, comes_to, first_back, first_by, first_made, first_opposed, first_pair, is_matched, is_used_entry, is_used_switch, goes_elsewhere, starts_at}
-use Rattle.sw_linter.specs.InWords.{Asks, ComeTo, ComesFor, IsGoneOver, ToldInWords}
+use Rattle.sw_linter.specs.Lints.{addresses, asks_on, back_by, comes_by, comes_to, first_back, first_by, first_made, first_opposed, first_pair, is_matched, is_used_entry, is_used_switch, can_block, starts_at}
+use Rattle.sw_linter.specs.InWords.{AreOpposed, Asks, ComeTo, ComesFor, IsGoneOver, ToldInWords}
 use Rattle.sw_linter.proofs.Keys.{leads, matched}
 use Rattle.sw_linter.proofs.Members.{all_listed}
 use Rattle.sw_linter.proofs.Tests.{any_passes, passing}
@@ -158,33 +162,59 @@ module _ (d : Declaration) (all : List FlowPlace) (a : AreAllPlaces d all) where
   asked : (c : ℕ) (v : FlowPlace) → Asks d c v → asks_on c v ≡ true
   asked c v k = and_from (is_some v.flow.reply) (v.place.channel == c) k.replied (eq-eqb v.place.channel c k.there)
 
-  links : (link : ℕ) → (is_some (first_pair all link) ≡ true) ↔ ((v w : FlowPlace) × Asks d (2 * link) v × Asks d (2 * link + 1) w × (v.flow.to ≢ w.flow.to))
+  -- what comes to a target may have to wait where that does not always take
+  not_always : (n : ℕ) → may_make_wait d n ≡ true → always_takes d n ≡ false
+  not_always n is = not-true (always_takes d n) (and_parts (is_answering d n) (not (always_takes d n)) is).1
+
+  may_wait : (c : ℕ) (v : FlowPlace) → Asks d c v → always_takes d v.flow.to ≡ false → may_make_wait d v.flow.to ≡ true
+  may_wait c v k waits = and_from (is_answering d v.flow.to) (not (always_takes d v.flow.to)) (answers d v.flow.to v.number v.flow k.come.numbered k.replied refl) (ap not waits)
+
+  links : (link : ℕ) → (is_some (first_pair d all link) ≡ true) ↔ ((v w : FlowPlace) × Asks d (2 * link) v × Asks d (2 * link + 1) w × AreOpposed d v w)
   links link = (
     λ is.
-        let v = passing (λ x. asks_on (2 * link) x && is_some (first_opposed all link (2 * link + 1) x)) all (sym known ∙ is) in
-        let both = and_parts (asks_on (2 * link) v.element) (is_some (first_opposed all link (2 * link + 1) v.element)) v.passes in
-        let w = passing (λ x. asks_on (2 * link + 1) x && goes_elsewhere v.element x) all (sym (found v.element) ∙ both.1) in
-        let other = and_parts (asks_on (2 * link + 1) w.element) (goes_elsewhere v.element w.element) w.passes in
-        (v.element, w.element, asks (2 * link) v.element v.listed both.0, asks (2 * link + 1) w.element w.listed other.0, apart v.element w.element other.1),
+        let v = passing (λ x. asks_on (2 * link) x && is_some (first_opposed d all link (2 * link + 1) x)) all (sym known ∙ is) in
+        let both = and_parts (asks_on (2 * link) v.element) (is_some (first_opposed d all link (2 * link + 1) v.element)) v.passes in
+        let w = passing (λ x. asks_on (2 * link + 1) x && can_block d v.element x) all (sym (found v.element) ∙ both.1) in
+        let other = and_parts (asks_on (2 * link + 1) w.element) (can_block d v.element w.element) w.passes in
+        (v.element, w.element, asks (2 * link) v.element v.listed both.0, asks (2 * link + 1) w.element w.listed other.0, to v.element w.element other.1),
     λ c.
         known
-        ∙ any_passes (λ x. asks_on (2 * link) x && is_some (first_opposed all link (2 * link + 1) x)) all c.0 (listed c.0 c.2.come)
-        (and_from (asks_on (2 * link) c.0) (is_some (first_opposed all link (2 * link + 1) c.0)) (asked (2 * link) c.0 c.2)
-        (found c.0 ∙ any_passes (λ x. asks_on (2 * link + 1) x && goes_elsewhere c.0 x) all c.1 (listed c.1 c.3.come)
-        (and_from (asks_on (2 * link + 1) c.1) (goes_elsewhere c.0 c.1) (asked (2 * link + 1) c.1 c.3) (ap not (ne_eqb c.1.flow.to c.0.flow.to (λ e. c.4 (sym e))))))),
+        ∙ any_passes (λ x. asks_on (2 * link) x && is_some (first_opposed d all link (2 * link + 1) x)) all c.0 (listed c.0 c.2.come)
+        (and_from (asks_on (2 * link) c.0) (is_some (first_opposed d all link (2 * link + 1) c.0)) (asked (2 * link) c.0 c.2)
+        (found c.0 ∙ any_passes (λ x. asks_on (2 * link + 1) x && can_block d c.0 x) all c.1 (listed c.1 c.3.come)
+        (and_from (asks_on (2 * link + 1) c.1) (can_block d c.0 c.1) (asked (2 * link + 1) c.1 c.3) (back c.0 c.1 c.2 c.3 c.4)))),
   )
     where
-      known : is_some (first_pair all link) ≡ list_any (λ x. asks_on (2 * link) x && is_some (first_opposed all link (2 * link + 1) x)) all
+      known : is_some (first_pair d all link) ≡ list_any (λ x. asks_on (2 * link) x && is_some (first_opposed d all link (2 * link + 1) x)) all
       known =
-          some_made (first_opposed all link (2 * link + 1)) (filter (asks_on (2 * link)) all)
-          ∙ any_filter (asks_on (2 * link)) (λ x. is_some (first_opposed all link (2 * link + 1) x)) all
+          some_made (first_opposed d all link (2 * link + 1)) (filter (asks_on (2 * link)) all)
+          ∙ any_filter (asks_on (2 * link)) (λ x. is_some (first_opposed d all link (2 * link + 1) x)) all
 
-      found : (v : FlowPlace) → is_some (first_opposed all link (2 * link + 1) v) ≡ list_any (λ x. asks_on (2 * link + 1) x && goes_elsewhere v x) all
+      found : (v : FlowPlace) → is_some (first_opposed d all link (2 * link + 1) v) ≡ list_any (λ x. asks_on (2 * link + 1) x && can_block d v x) all
       found v =
-          is_some-map (λ (w : FlowPlace). Opposed link v.number w.number) (find (λ x. asks_on (2 * link + 1) x && goes_elsewhere v x) all) ∙ some_found (λ x. asks_on (2 * link + 1) x && goes_elsewhere v x) all
+          is_some-map (λ (w : FlowPlace). Opposed link v.number w.number) (find (λ x. asks_on (2 * link + 1) x && can_block d v x) all) ∙ some_found (λ x. asks_on (2 * link + 1) x && can_block d v x) all
 
-      apart : (v w : FlowPlace) → goes_elsewhere v w ≡ true → v.flow.to ≢ w.flow.to
-      apart v w is same = false≢true (sym (ap not (eq-eqb w.flow.to v.flow.to (sym same))) ∙ is)
+      to : (v w : FlowPlace) → can_block d v w ≡ true → AreOpposed d v w
+      to v w is =
+          let both = and_parts (not (w.flow.to == v.flow.to)) (may_make_wait d v.flow.to || may_make_wait d w.flow.to) is in
+          record {
+            apart = λ same. false≢true (sym (ap not (eq-eqb w.flow.to v.flow.to (sym same))) ∙ both.0);
+            waits = elim (or_cases (may_make_wait d v.flow.to) (may_make_wait d w.flow.to) both.1) [
+              | inl one ↦ inl (not_always v.flow.to one)
+              | inr other ↦ inr (not_always w.flow.to other)
+            ];
+          }
+
+      back : (v w : FlowPlace) → Asks d (2 * link) v → Asks d (2 * link + 1) w → AreOpposed d v w → can_block d v w ≡ true
+      back v w one other o =
+          and_from (not (w.flow.to == v.flow.to)) (may_make_wait d v.flow.to || may_make_wait d w.flow.to) (ap not (ne_eqb w.flow.to v.flow.to (λ e. o.apart (sym e))))
+          (elim o.waits [
+            | inl waits ↦ or_left (may_make_wait d v.flow.to) (may_make_wait d w.flow.to) (may_wait (2 * link) v one waits)
+            | inr waits ↦ or_right (may_make_wait d v.flow.to) (may_make_wait d w.flow.to) (may_wait (2 * link + 1) w other waits)
+          ])
+
+  unlimited : IsValid d → HasNoLimits d → (v w : FlowPlace) → v.flow.to ≢ w.flow.to → AreOpposed d v w
+  unlimited valid none v w apart = record { apart = apart; waits = inl (never_takes d none valid.flows v.flow.to) }
 
 pub told_in_words : ToldInWords
-told_in_words d all a = record { switches = switches d all a; entries = entries d all a; backs = backs d all a; links = links d all a }
+told_in_words d all a = record { switches = switches d all a; entries = entries d all a; backs = backs d all a; links = links d all a; unlimited = unlimited d all a }

@@ -2,7 +2,7 @@
 use Rattle.std.specs.Prelude.{◌≡◌, ◌↔◌, ℕ, List, [], ◌∷◌, Contains}
 use Rattle.sw_config.specs.Entries.{Declaration}
 use Rattle.sw_linter.specs.Lints.{AreLints}
-use Rattle.sw_linter.specs.LintTexts.{AreLintTexts}
+use Rattle.sw_linter.specs.LintTexts.{AreLintTexts, AreNoteTexts}
 use Rattle.sw_linter.specs.declared.lint.Lint.{Lint}
 use Rattle.sw_linter.specs.declared.lint.Lint.TheVariants.{NoFlows}
 
@@ -13,6 +13,10 @@ LintsAreDetermined = (d : Declaration) (told other : List Lint) → AreLints d t
 -- and its texts are
 abbrev pub LintTextsAreDetermined : Type 0
 LintTextsAreDetermined = (d : Declaration) (told other : List (List ℕ)) → AreLintTexts d told → AreLintTexts d other → told ≡ other
+
+-- and its notes are
+abbrev pub NoteTextsAreDetermined : Type 0
+NoteTextsAreDetermined = (d : Declaration) (told other : List (List ℕ)) → AreNoteTexts d told → AreNoteTexts d other → told ≡ other
 
 -- That a network has no flows is told exactly where it has none, and then alone.
 pub record IsToldAlone (d : Declaration) (told : List Lint) : Type 0 where

@@ -1,5 +1,5 @@
 -- How it is told (this project's choice).
-use Rattle.std.specs.Prelude.{◌≡◌, ℕ, ◌*◌, List, [], ◌∷◌, map, codes, slice_get}
+use Rattle.std.specs.Prelude.{◌≡◌, ℕ, ◌*◌, List, [], ◌∷◌, ◌++◌, map, codes, slice_get}
 use Rattle.std.specs.Option.{option_map_or}
 use Rattle.std.specs.Fmt.{decimal}
 use Rattle.sw_config.specs.Entries.{Declaration, all_flows}
@@ -37,6 +37,21 @@ lint_text d (LeadsBack s e port flow) =
 lint_text d (Opposed link onward back) =
     spaced (codes "commands of" ∷ command_words d onward ∷ codes "go over" ∷ channel_text d (2 * link) ∷ codes "and of" ∷ command_words d back
     ∷ codes "the other way: while both targets answer, each can wait for the other" ∷ [])
+
+-- what can prevent it, told on standard error alone
+abbrev pub cure_words : Lint → List ℕ
+cure_words (Opposed link onward back) = codes "; limits on unanswered commands ('outstanding', from version 3 on) can prevent that"
+cure_words lint = []
+
+-- as a note on standard error
+abbrev pub note_text : Declaration → Lint → List ℕ
+note_text d lint = lint_text d lint ++ cure_words lint
+
+-- the notes on all that is told of a network
+pub record AreNoteTexts (d : Declaration) (texts : List (List ℕ)) : Type 0 where
+  pub lints : List Lint
+  pub told : AreLints d lints
+  pub worded : texts ≡ map (note_text d) lints
 
 -- the texts of all that is told of a network
 pub record AreLintTexts (d : Declaration) (texts : List (List ℕ)) : Type 0 where

@@ -8,6 +8,7 @@ use Rattle.sw_topo.specs.Wiring.{is_at_switch, is_port}
 use Rattle.sw_route.specs.Looks.{covers}
 use Rattle.sw_route.specs.declared.look.Route.{Route}
 use Rattle.sw_config.specs.Entries.{FlowEntry, Declaration, routes_of, target_of}
+use Rattle.sw_config.specs.Limits.{may_make_wait}
 use Rattle.sw_flow.specs.Places.{end_of, ends_of}
 use Rattle.sw_output.specs.LinkedPorts.{has_link}
 use Rattle.sw_linter.specs.FlowPlaces.{FlowPlace, AreAllPlaces, leading_byte}
@@ -143,20 +144,20 @@ leads_back d all s e r = if is_group (linked d s r) then option_to_list (first_b
 abbrev pub asks_on : ℕ → FlowPlace → Bool
 asks_on c v = is_some v.flow.reply && v.place.channel == c
 
--- the other flow goes to another node
-abbrev pub goes_elsewhere : FlowPlace → FlowPlace → Bool
-goes_elsewhere v w = not (w.flow.to == v.flow.to)
+-- the flows go to two nodes, and what comes to one of the two may have to wait until it has sent a reply
+abbrev pub can_block : Declaration → FlowPlace → FlowPlace → Bool
+can_block d v w = not (w.flow.to == v.flow.to) && (may_make_wait d v.flow.to || may_make_wait d w.flow.to)
 
--- the first flow with a reply that goes over that channel to another target
-abbrev pub first_opposed : List FlowPlace → ℕ → ℕ → FlowPlace → Option Lint
-first_opposed all link c v = option_map (λ w. Opposed link v.number w.number) (find (λ w. asks_on c w && goes_elsewhere v w) all)
+-- the first such flow with a reply that goes over that channel
+abbrev pub first_opposed : Declaration → List FlowPlace → ℕ → ℕ → FlowPlace → Option Lint
+first_opposed d all link c v = option_map (λ w. Opposed link v.number w.number) (find (λ w. asks_on c w && can_block d v w) all)
 
--- of the flows with replies that go over the link from its end a to its end b, the first for which another goes back
-abbrev pub first_pair : List FlowPlace → ℕ → Option Lint
-first_pair all link = first_made (first_opposed all link (2 * link + 1)) (filter (asks_on (2 * link)) all)
+-- of the flows with replies that go over the link from its end a to its end b, the first for which such a one goes back
+abbrev pub first_pair : Declaration → List FlowPlace → ℕ → Option Lint
+first_pair d all link = first_made (first_opposed d all link (2 * link + 1)) (filter (asks_on (2 * link)) all)
 
-abbrev pub opposed : List FlowPlace → ℕ → List Lint
-opposed all link = option_to_list (first_pair all link)
+abbrev pub opposed : Declaration → List FlowPlace → ℕ → List Lint
+opposed d all link = option_to_list (first_pair d all link)
 
 -- ---- all
 
@@ -168,7 +169,7 @@ unused d all =
 abbrev pub doubtful : Declaration → List FlowPlace → List Lint
 doubtful d all =
     by_switches d (λ s. by_entries d (one_linked_port d s) s)
-    ++ (by_switches d (λ s. by_entries d (leads_back d all s) s) ++ by_links d (opposed all))
+    ++ (by_switches d (λ s. by_entries d (leads_back d all s) s) ++ by_links d (opposed d all))
 
 -- where there are no flows, that alone: all else would be unused
 abbrev pub told_of : Declaration → List FlowPlace → List FlowEntry → List Lint

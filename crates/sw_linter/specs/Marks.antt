@@ -10,6 +10,7 @@ use Rattle.sw_topo.specs.declared.place.PlaceEnd.{PlaceEnd}
 use Rattle.sw_topo.specs.declared.place.PlaceEnd.TheVariants.{Node, Switch}
 use Rattle.sw_route.specs.declared.look.Route.{Route}
 use Rattle.sw_config.specs.Entries.{FlowEntry, Declaration, all_flows, target_of}
+use Rattle.sw_config.specs.Limits.{may_make_wait}
 use Rattle.sw_flow.specs.declared.place.Place.{Place}
 use Rattle.sw_flow.specs.Places.{end_of, ends_of, IsPlaceList}
 use Rattle.sw_linter.specs.FlowPlaces.{FlowPlace, AreFlowPlaces, leading_byte, places_of_flow}
@@ -61,7 +62,7 @@ nodes_of d = fold with_flow (no_nodes d) d.flows
 
 -- For each switch: whether a place is on a channel that starts there, and one that ends there; by the byte that packets lead with,
 -- whether some come there. For each channel: by that byte, the first flow with a place on it; the first flow with a reply and a place
--- on it, and the first of those to another target.
+-- on it, and the first of those whose commands may have to wait elsewhere.
 pub record MarkLists : Type 0 where
   pub starts : List Bool
   pub ends : List Bool
@@ -96,13 +97,28 @@ led_key v = in_row (Some v.place.channel) (leading_byte v)
 abbrev pub asking_key : FlowPlace → Option ℕ
 asking_key v = if is_some v.flow.reply then Some v.place.channel else None
 
--- it goes to another target
-abbrev pub is_other : Option Asking → ℕ → Bool
-is_other None to = false
-is_other (Some a) to = not (to == a.to)
+-- the target where commands to node n may have to wait: none where it always takes what comes
+abbrev pub waits_at : Declaration → ℕ → Option ℕ
+waits_at d n = if may_make_wait d n then Some n else None
 
-abbrev pub other_key : List (Option Asking) → FlowPlace → Option ℕ
-other_key asking v = if is_some v.flow.reply && is_other (note_at asking v.place.channel) v.flow.to then Some v.place.channel else None
+-- commands wait at one target, or none of them waits
+abbrev pub is_same_wait : Option ℕ → Option ℕ → Bool
+is_same_wait None None = true
+is_same_wait None (Some n) = false
+is_same_wait (Some m) None = false
+is_same_wait (Some m) (Some n) = m == n
+
+-- commands that wait there wait elsewhere than those of that flow
+abbrev pub is_other : Option Asking → Option ℕ → Bool
+is_other None wait = false
+is_other (Some a) wait = not (is_same_wait wait a.waits_at)
+
+abbrev pub asker : Declaration → FlowPlace → Asking
+asker d v = record { number = v.number; waits_at = waits_at d v.flow.to }
+
+abbrev pub other_key : Declaration → List (Option Asking) → FlowPlace → Option ℕ
+other_key d asking v =
+    if is_some v.flow.reply && is_other (note_at asking v.place.channel) (waits_at d v.flow.to) then Some v.place.channel else None
 
 -- what is noted with one place more
 abbrev pub with_place : Declaration → MarkLists → FlowPlace → MarkLists
@@ -111,15 +127,15 @@ with_place d m v = record {
   ends = marked (end_key d v) m.ends;
   arrivals = marked (arrival_key d v) m.arrivals;
   led = noted (led_key v) v.number m.led;
-  asking = noted (asking_key v) (record { number = v.number; to = v.flow.to }) m.asking;
-  other = noted (other_key m.asking v) v.number m.other;
+  asking = noted (asking_key v) (asker d v) m.asking;
+  other = noted (other_key d m.asking v) v.number m.other;
 }
 
 -- the part of it that is on the channel, if the flow has a reply
-abbrev pub with_command : MarkLists → ℕ → FlowEntry → ℕ → MarkLists
-with_command m number f channel = record m {
-  asking = noted (if is_some f.reply then Some channel else None) (record { number = number; to = f.to }) m.asking;
-  other = noted (if is_some f.reply && is_other (note_at m.asking channel) f.to then Some channel else None) number m.other;
+abbrev pub with_command : Declaration → MarkLists → ℕ → FlowEntry → ℕ → MarkLists
+with_command d m number f channel = record m {
+  asking = noted (if is_some f.reply then Some channel else None) (record { number = number; waits_at = waits_at d f.to }) m.asking;
+  other = noted (if is_some f.reply && is_other (note_at m.asking channel) (waits_at d f.to) then Some channel else None) number m.other;
 }
 
 -- there is no place for a mark
@@ -198,12 +214,12 @@ entry_lint_by d m Unused = unused_entry_by m
 entry_lint_by d m OneLinked = one_linked_port d
 entry_lint_by d m Back = leads_back_by d m
 
--- of the first flows with replies both ways over the link, and the first ones to other targets
+-- of the first flows with replies both ways over the link, and the first ones whose commands may have to wait elsewhere
 abbrev pub pair_of : ℕ → Option Asking → Option Asking → Option ℕ → Option ℕ → Option Lint
 pair_of link None b other_a other_b = None
 pair_of link (Some a) None other_a other_b = None
 pair_of link (Some a) (Some b) other_a other_b =
-    if b.to == a.to then first_of (option_map (λ n. Opposed link a.number n) other_b) (option_map (λ n. Opposed link n b.number) other_a)
+    if is_same_wait b.waits_at a.waits_at then first_of (option_map (λ n. Opposed link a.number n) other_b) (option_map (λ n. Opposed link n b.number) other_a)
     else Some (Opposed link a.number b.number)
 
 abbrev pub pair_by : MarkLists → ℕ → Option Lint

@@ -36,7 +36,7 @@ fn found_by(alloc: Global, network: &Network, marks: &Marks) -> Result<Vec<Lint>
 
 /// What in the network is probably a slip, in this order: that it has no flows, and then that alone; nodes, switches, targets and table
 /// entries that no flow uses; groups of which one port alone has a link; groups that lead packets back; links over which commands go both
-/// ways to targets that answer.
+/// ways, to two targets one of which does not always take what comes.
 ///
 /// The places of each flow are gone through once.
 ///

@@ -1,15 +1,16 @@
 //! Laws of what is told. These functions do nothing: each is the proof of what its clause says.
 ghost use Rattle.sw_linter.specs.InWords.{AllPlacesAreListed, ToldInWords};
-ghost use Rattle.sw_linter.specs.Laws.{LintTextsAreDetermined, LintsAreDetermined, NoFlowsIsToldAlone};
+ghost use Rattle.sw_linter.specs.Laws.{LintTextsAreDetermined, LintsAreDetermined, NoFlowsIsToldAlone, NoteTextsAreDetermined};
 
 /// What is told of a network is determined.
 pub fn lints_are_determined()
     ensures { LintsAreDetermined }
 {}
 
-/// The texts of what is told of a network are determined.
+/// The texts of what is told of a network are determined, and so are the notes on it.
 pub fn lint_texts_are_determined()
-    ensures { LintTextsAreDetermined }
+    ensures texts { LintTextsAreDetermined }
+    ensures notes { NoteTextsAreDetermined }
 {}
 
 /// That a network has no flows is told exactly where it has none, and then alone.
@@ -22,7 +23,8 @@ pub fn all_places_are_listed()
     ensures { AllPlacesAreListed }
 {}
 
-/// In words of packets: when a switch and an entry are used, when a group leads back, and when a link is between two targets.
+/// In words of packets: when a switch and an entry are used, when a group leads back, and when a link is between two targets of which one
+/// may make commands wait.
 pub fn told_in_words()
     ensures { ToldInWords }
 {}

@@ -15,4 +15,4 @@ mod texts;
 
 pub use finding::lints;
 pub use lint::Lint;
-pub use texts::lint_texts;
+pub use texts::{lint_texts, note_texts};

@@ -35,7 +35,8 @@ pub enum Lint {
         port: Port,
         flow: u16,
     },
-    /// Two flows with replies go over the link, the one from its end `a` to its end `b` and the other back, to two targets.
+    /// Two flows with replies go over the link, the one from its end `a` to its end `b` and the other back, to two targets, one of which
+    /// does not always take what comes.
     Opposed {
         link: u16,
         onward: u16,

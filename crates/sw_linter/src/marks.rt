@@ -5,7 +5,7 @@ ghost use Rattle.sw_flow.specs.Places.{ends_of};
 ghost use Rattle.sw_linter.specs.Marks.{in_row, switch_at};
 
 use crate::alike::is_like_last;
-use crate::asking::Asking;
+use crate::asking::{Asking, is_same_wait, waits_at};
 use crate::lint::Lint;
 use crate::tables::{first_noted, is_any_marked, is_marked, mark, note, note_at};
 use std::alloc::{AllocError, Global};
@@ -28,7 +28,7 @@ pub(crate) struct Marks {
     led: Vec<Option<u16>>,
     // For each channel: the first flow with a reply that has a place there.
     asking: Vec<Option<Asking>>,
-    // For each channel: the first of those to another target.
+    // For each channel: the first of those whose commands may have to wait elsewhere.
     other: Vec<Option<u16>>,
 }
 
@@ -104,18 +104,20 @@ impl Marks {
     }
 
     // On the place's channel, if the flow has a reply.
-    fn note_command(&mut self, number: u16, flow: &Flow, channel: Chan)
-        ensures { self.new ≡ with_command self.old number flow.now channel }
+    fn note_command(&mut self, network: &Network, number: u16, flow: &Flow, channel: Chan)
+        ensures { self.new ≡ with_command network.now self.old number flow.now channel }
     {
         if flow.reply().is_none() {
             return;
         }
         let at = usize::from(channel.number());
-        let to = flow.to();
+        let waits_at = waits_at(network, flow.to());
         match note_at(&self.asking, at) {
-            Some(asking) if to != asking.to => note(&mut self.other, Some(at), number),
+            Some(asking) if !is_same_wait(waits_at, asking.waits_at) => {
+                note(&mut self.other, Some(at), number)
+            }
             Some(_) => {}
-            None => note(&mut self.asking, Some(at), Asking { number, to }),
+            None => note(&mut self.asking, Some(at), Asking { number, waits_at }),
         }
     }
 
@@ -136,7 +138,7 @@ impl Marks {
             in_row(Some(usize::from(place.channel.number())), byte),
             number,
         );
-        self.note_command(number, flow, place.channel);
+        self.note_command(network, number, flow, place.channel);
     }
 
     // The places of the flow of that number.
@@ -216,8 +218,8 @@ impl Marks {
         first_noted(&self.led, from, count_of(route))
     }
 
-    /// Two flows with replies to two targets that go over the link both ways, if there are such: of the first ones both ways, and the
-    /// first ones to other targets than those, the first two to two targets.
+    /// Two flows with replies that go over the link both ways, to two targets one of which does not always take what comes, if there are
+    /// such: of the first ones both ways, and the first ones whose commands may have to wait elsewhere, the first two.
     pub(crate) fn opposed(&self, link: u16) -> Option<Lint>
         ensures { result ≡ pair_by self.now link }
     {
@@ -226,7 +228,7 @@ impl Marks {
         let (Some(onward), Some(back)) = (note_at(&self.asking, a), note_at(&self.asking, b)) else {
             return None;
         };
-        if back.to != onward.to {
+        if !is_same_wait(back.waits_at, onward.waits_at) {
             return Some(Lint::Opposed {
                 link,
                 onward: onward.number,

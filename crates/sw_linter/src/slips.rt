@@ -20,7 +20,7 @@ pub(crate) enum Slip {
     Target,
     /// An entry of a routing table.
     Entry(EntrySlip),
-    /// A link between targets whose flows are answered.
+    /// A link with targets on both sides, one of which may make commands wait.
     Link,
 }
 

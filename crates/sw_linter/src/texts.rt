@@ -2,7 +2,7 @@
 ghost use Rattle.std.specs.Prelude.{◌≡◌, ◌∷◌, [], ◌++◌, ◌*◌, IfOk, OnOk, map, string_bytes};
 ghost use Rattle.sw_output.specs.ChannelTexts.{channel_text};
 ghost use Rattle.sw_output.specs.Lines.{spaced};
-ghost use Rattle.sw_linter.specs.LintTexts.{AreLintTexts, end_name, entry_at_words, lint_text};
+ghost use Rattle.sw_linter.specs.LintTexts.{AreLintTexts, AreNoteTexts, cure_words, end_name, entry_at_words, lint_text, note_text};
 
 use crate::finding::lints;
 use crate::lint::Lint;
@@ -171,6 +171,56 @@ pub fn lint_texts(alloc: Global, network: &Network) -> Result<Vec<String>, Alloc
     let mut texts = Vec::new(alloc);
     for lint in &told {
         add_text(alloc, network, lint, &mut texts)?;
+    }
+    Ok(texts)
+}
+
+// What can prevent it.
+fn cure_words(lint: &Lint) -> &'static str
+    ensures { result.now ≡ cure_words lint.now }
+{
+    match lint {
+        Lint::Opposed { .. } => {
+            "; limits on unanswered commands ('outstanding', from version 3 on) can prevent that"
+        }
+        _ => "",
+    }
+}
+
+// As a note on standard error.
+fn note_text(alloc: Global, network: &Network, lint: &Lint) -> Result<String, AllocError>
+    ensures { IfOk result (λ s. string_bytes s ≡ note_text network.now lint.now) }
+{
+    let mut text = lint_text(alloc, network, lint)?;
+    text.push_str(cure_words(lint))?;
+    Ok(text)
+}
+
+// Adds the note on what is told.
+fn add_note(
+    alloc: Global,
+    network: &Network,
+    lint: &Lint,
+    texts: &mut Vec<String>,
+) -> Result<(), AllocError>
+    ensures { OnOk result (map string_bytes texts.new.items ≡ map string_bytes texts.old.items ++ note_text network.now lint.now ∷ []) }
+{
+    texts.push(note_text(alloc, network, lint)?)?;
+    Ok(())
+}
+
+/// The same as notes on standard error: behind the text of two targets on both sides of a link stands what can prevent that they wait.
+///
+/// # Errors
+///
+/// There is no memory for the texts, or for what finds what they tell.
+pub fn note_texts(alloc: Global, network: &Network) -> Result<Vec<String>, AllocError>
+    ensures { IfOk result (λ v. AreNoteTexts network.now (map string_bytes v.items)) }
+{
+    let told = lints(alloc, network)?;
+    let mut texts = Vec::new(alloc);
+    for lint in &told {
+        add_note(alloc, network, lint, &mut texts)?;
     }
     Ok(texts)
 }

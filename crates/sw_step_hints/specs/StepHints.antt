@@ -1,9 +1,10 @@
 -- The hint of a schedule: of a step that can't be made, or of a lock-up (this project's choice).
-use Rattle.std.specs.Prelude.{◌≡◌, ℕ, suc, zero, ◌+◌, ◌-◌, nat_le, List, [], ◌∷◌, ◌++◌, Option, Some, None, Result, Ok, Err, String, codes, if◌then◌else◌, length, option_map, slice_get, string_bytes}
+use Rattle.std.specs.Prelude.{◌≡◌, ℕ, Bool, true, false, suc, zero, ◌+◌, ◌-◌, nat_le, List, [], ◌∷◌, ◌++◌, Option, Some, None, Result, Ok, Err, String, codes, if◌then◌else◌, length, option_map, slice_get, string_bytes}
 use Rattle.std.specs.Fmt.{decimal}
+use Rattle.std.specs.Option.{option_map_or}
 use Rattle.std.specs.declared.alloc.Global.{Global}
 use Rattle.sw_config.specs.Entries.{Declaration, FlowEntry, all_flows}
-use Rattle.sw_config.specs.Limits.{limit_at}
+use Rattle.sw_config.specs.Limits.{is_limited, limit_at}
 use Rattle.sw_file.specs.Network.{network_text}
 use Rattle.sw_hints.specs.HintLines.{found_line, head_line, told}
 use Rattle.sw_machine.specs.Steps.{Step, Fct, FctIn, Arrive, Grant, Drop, Forward, Spill, Begin, Emit, Accept, Reply}
@@ -54,10 +55,25 @@ abbrev pub over_limit : Declaration → Step → List ℕ
 over_limit d (Begin f cargo end) = flow_limit_words d (slice_get (all_flows d) f)
 over_limit d step = []
 
+-- what a packet has to be that its flow declares, where that is limited in its unanswered commands, and where it is not
+abbrev pub packet_words : Bool → List ℕ
+packet_words true =
+    codes "an RMAP command that the target answers, and whose reply goes where the flow's 'reply' says, since the flow is limited: swcheck rmap tells its cargo"
+packet_words false = codes "no command that the target would answer, or one whose reply goes where the flow's 'reply' says"
+
+-- there is a flow of that number, and it is limited
+abbrev pub is_limited_flow : Declaration → ℕ → Bool
+is_limited_flow d f = option_map_or (is_limited d.nodes) (slice_get (all_flows d) f) false
+
+-- the same of a step that begins a packet
+abbrev pub not_in_flow : Declaration → Step → List ℕ
+not_in_flow d (Begin f cargo end) = packet_words (is_limited_flow d f)
+not_in_flow d step = []
+
 -- what is expected in place of the step, by why it is refused
 abbrev pub expected : Declaration → StepRefusal → Step → List ℕ
 expected d NotEnabled step = needs d step
-expected d NotInFlow step = codes "no command that the target would answer, or one whose reply goes where the flow's 'reply' says"
+expected d NotInFlow step = not_in_flow d step
 expected d OverLimit step = over_limit d step
 
 -- why a step is refused, behind its number

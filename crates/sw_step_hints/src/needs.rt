@@ -3,7 +3,7 @@ ghost use Rattle.std.specs.Prelude.{◌≡◌, ◌++◌, IfOk, Some, codes, slic
 ghost use Rattle.sw_hints.specs.HintLines.{told};
 ghost use Rattle.sw_machine.specs.StepValues.{machine_step};
 ghost use Rattle.sw_config.specs.Entries.{all_flows};
-ghost use Rattle.sw_step_hints.specs.StepHints.{about, expected, flow_limit_words, limit_words, needs, over_limit, refused, refused_words};
+ghost use Rattle.sw_step_hints.specs.StepHints.{about, expected, flow_limit_words, is_limited_flow, limit_words, needs, not_in_flow, over_limit, packet_words, refused, refused_words};
 
 use std::alloc::{AllocError, Global};
 use sw_config::Network;
@@ -38,9 +38,6 @@ fn grant_needs(alloc: Global, output: Chan, input: Chan) -> Result<String, Alloc
     )?;
     about(alloc, "an input from channel ", input, named.as_str())
 }
-
-const NOT_IN_FLOW: &str =
-    "no command that the target would answer, or one whose reply goes where the flow's 'reply' says";
 
 // What the step needs to be possible.
 fn needs(alloc: Global, network: &Network, step: &Step) -> Result<String, AllocError>
@@ -144,6 +141,34 @@ fn over_limit(alloc: Global, network: &Network, step: &Step) -> Result<String, A
     }
 }
 
+// Is there a flow of that number, and is it limited in its unanswered commands?
+fn is_limited_flow(network: &Network, flow: u16) -> bool
+    ensures { result ≡ is_limited_flow network.now flow }
+{
+    flow < network.flows() && network.is_limited(flow)
+}
+
+// What a packet has to be that its flow declares, where that is limited in its unanswered commands, and where it is not.
+fn packet_words(limited: bool) -> &'static str
+    ensures { result.now ≡ packet_words limited }
+{
+    if limited {
+        "an RMAP command that the target answers, and whose reply goes where the flow's 'reply' says, since the flow is limited: swcheck rmap tells its cargo"
+    } else {
+        "no command that the target would answer, or one whose reply goes where the flow's 'reply' says"
+    }
+}
+
+// What a packet has to be that the step would begin.
+fn not_in_flow(network: &Network, step: &Step) -> &'static str
+    ensures { result.now ≡ not_in_flow network.now (machine_step step.now) }
+{
+    match step {
+        Step::Begin { flow, .. } => packet_words(is_limited_flow(network, *flow)),
+        _ => "",
+    }
+}
+
 /// The line of what is expected in place of the step.
 ///
 /// # Errors
@@ -159,7 +184,7 @@ pub(crate) fn expected_line(
 {
     match refusal {
         StepRefusal::NotEnabled => told(alloc, "expected", needs(alloc, network, step)?.as_bytes()),
-        StepRefusal::NotInFlow => told(alloc, "expected", NOT_IN_FLOW.as_bytes()),
+        StepRefusal::NotInFlow => told(alloc, "expected", not_in_flow(network, step).as_bytes()),
         StepRefusal::OverLimit => {
             told(
                 alloc,

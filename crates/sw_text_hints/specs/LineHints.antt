@@ -4,9 +4,9 @@ use Rattle.std.specs.Fmt.{decimal}
 use Rattle.sw_hints.specs.HintLines.{found_line, told}
 use Rattle.sw_hints.specs.Shown.{shown}
 use Rattle.toml.specs.Data.{Members}
-use Rattle.sw_config.specs.Entries.{Declaration}
 use Rattle.sw_text.specs.declared.fault.TextFault.{TextFault}
-use Rattle.sw_text_hints.specs.LoadHints.{help_by, note_by}
+use Rattle.sw_text_hints.specs.LoadHints.{help_by, note_words}
+use Rattle.sw_text_hints.specs.declared.undeclared.Undeclared.{Undeclared}
 
 -- a place in a text, the fault with what stands round its name, what is wrong, and the line of what stands there
 abbrev pub place_by : List ℕ → List ℕ → ℕ → ℕ → List ℕ → List ℕ → List ℕ
@@ -18,5 +18,5 @@ unfoldable pub place_lines : List ℕ → List ℕ → ℕ → List ℕ → ℕ 
 place_lines path fault number line offset what = place_by (shown path) fault number (offset + 1) what (found_line line (Some offset))
 
 -- what to do about a fault of the load that has this document, if any, and what there is to note of it, each as a line
-abbrev pub more_by : TextFault → List ℕ → Declaration → Option Members → List ℕ
-more_by fault network d document = told (codes "help") (help_by fault network document) ++ told (codes "note") (note_by fault d document)
+abbrev pub more_by : Option Undeclared → TextFault → List ℕ → Option Members → List ℕ
+more_by why fault network document = told (codes "help") (help_by why fault network document) ++ told (codes "note") (note_words why)

@@ -6,6 +6,7 @@ mod line_hints;
 mod loads;
 mod schedules;
 mod step_words;
+mod undeclared;
 mod wrong_word;
 
 pub use certificates::certificate_hint;

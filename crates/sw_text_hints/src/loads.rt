@@ -1,11 +1,12 @@
 //! The hint of a load's fault.
-ghost use Rattle.std.specs.Prelude.{◌≡◌, IfOk, Some, map, option_map, string_bytes};
+ghost use Rattle.std.specs.Prelude.{◌≡◌, IfOk, None, Some, map, option_map, string_bytes};
 ghost use Rattle.toml.specs.View.{table_view};
 ghost use Rattle.sw_text.specs.Document.{document_of};
 ghost use Rattle.sw_hints.specs.Entries.{names_of};
 ghost use Rattle.sw_text_hints.specs.LineHints.{more_by};
-ghost use Rattle.sw_text_hints.specs.LoadHints.{IsFaultHint, IsHintFor, IsLoadHint, document_in, expected, help_by, key_help, load_help, load_note, meant};
+ghost use Rattle.sw_text_hints.specs.LoadHints.{IsFaultHint, IsHintBy, IsHintFor, IsLoadHint, document_in, expected, expected_for, help_by, help_for, key_help, load_help, meant, note_words};
 
+use crate::undeclared::{Undeclared, undeclared_in, why_words};
 use std::alloc::{AllocError, Global};
 use sw_config::Network;
 use sw_file::read_network;
@@ -90,23 +91,48 @@ fn load_help(
     }
 }
 
-// What there is to note of a fault of a load: which condition failed of a packet that its flow does not declare.
-fn load_note(network: &Network, load: &Table, fault: &TextFault) -> &'static str
-    ensures { result.now ≡ load_note fault.now network.now (table_view load.now) }
+// What there is to note.
+fn note_words(why: Option<Undeclared>) -> &'static str
+    ensures { result.now ≡ note_words why }
 {
-    let TextFault::NotInFlow(packet) = fault else {
-        return "";
-    };
-    let Some(name) = text_of(load, Section::Packet(*packet), Key::Flow) else {
-        return "";
-    };
-    let Some(flow) = network.declared_flow_named(name) else {
-        return "";
-    };
-    if network.flow(flow).reply().is_some() {
-        "its target answers this command, and the reply does not go where the flow's 'reply' says"
-    } else {
-        "its target answers this command, and the flow has no 'reply'"
+    match why {
+        Some(why) => why_words(why),
+        None => "",
+    }
+}
+
+// What would be right: in a limited flow a command that is answered.
+fn expected_for(
+    alloc: Global,
+    why: Option<Undeclared>,
+    fault: &TextFault,
+) -> Result<String, AllocError>
+    ensures { IfOk result (λ s. string_bytes s ≡ expected_for why fault.now) }
+{
+    match why {
+        Some(Undeclared::Limited) => String::from_str(
+            alloc,
+            "an RMAP command that the target answers, and whose reply goes where the flow's 'reply' says",
+        ),
+        _ => expected(alloc, fault),
+    }
+}
+
+// What to do about it, for a network with this document.
+fn help_for(
+    alloc: Global,
+    why: Option<Undeclared>,
+    fault: &TextFault,
+    network: &Table,
+    load: &Table,
+) -> Result<String, AllocError>
+    ensures { IfOk result (λ s. string_bytes s ≡ help_for why fault.now (table_view network.now) (table_view load.now)) }
+{
+    match why {
+        Some(Undeclared::Limited) => {
+            String::from_str(alloc, "swcheck rmap writes such a command")
+        }
+        _ => load_help(alloc, network, load, fault),
     }
 }
 
@@ -130,37 +156,68 @@ pub(crate) fn document_in(alloc: Global, text: &[u8]) -> Result<Option<Table>, A
 // What to do about a fault of this load, for the network of a text.
 fn help_of(
     alloc: Global,
+    why: Option<Undeclared>,
+    fault: &TextFault,
     network: &[u8],
     load: &Table,
-    fault: &TextFault,
 ) -> Result<String, AllocError>
-    ensures { IfOk result (λ s. string_bytes s ≡ help_by fault.now network.now (Some (table_view load.now))) }
+    ensures { IfOk result (λ s. string_bytes s ≡ help_by why fault.now network.now (Some (table_view load.now))) }
 {
     match document_in(alloc, network)? {
-        Some(network) => load_help(alloc, &network, load, fault),
+        Some(network) => help_for(alloc, why, fault, &network, load),
         None => Ok(String::new(alloc)),
     }
 }
 
-// What to do about a fault of a load for this network, whose text is the first one, and what there is to note of it, each as a line; nothing
-// of a load that has no document.
+// What to do about a fault of a load, for the network of the text, and what there is to note of it, each as a line; nothing of a load that
+// has no document.
 fn more_of(
     alloc: Global,
-    text: &[u8],
-    network: &Network,
-    load: &[u8],
+    why: Option<Undeclared>,
     fault: &TextFault,
+    text: &[u8],
+    load: Option<&Table>,
 ) -> Result<String, AllocError>
-    ensures { IfOk result (λ s. string_bytes s ≡ more_by fault.now text.now network.now (document_in (document_of load.now))) }
+    requires { load ≡ None → why ≡ None }
+    ensures { IfOk result (λ s. string_bytes s ≡ more_by why fault.now text.now (option_map (λ t. table_view t.now) load.entry)) }
 {
-    match document_in(alloc, load)? {
-        Some(document) => {
-            let help = told_of(alloc, "help", help_of(alloc, text, &document, fault));
-            let words = load_note(network, &document, fault);
+    match load {
+        Some(load) => {
+            let help = told_of(alloc, "help", help_of(alloc, why, fault, text, load));
+            let words = note_words(why);
             joined(alloc, help, told(alloc, "note", words.as_bytes()))
         }
         None => Ok(String::new(alloc)),
     }
+}
+
+// What is told of a fault of a load that has this document, if any, for this network, whose text is the first one.
+fn hint_by(
+    alloc: Global,
+    path: &str,
+    text: &[u8],
+    network: &Network,
+    load: &[u8],
+    fault: &TextFault,
+    document: Option<&Table>,
+) -> Result<String, AllocError>
+    ensures { IfOk result (λ s. IsHintBy path.now text.now network.now load.now fault.now (option_map (λ t. table_view t.now) document.entry) (string_bytes s)) }
+{
+    let place = fault_place(alloc, load, fault)?;
+    let why = undeclared_in(network, fault, document);
+    let more = more_of(alloc, why, fault, text, document)?;
+    let what = what_text(alloc, fault)?;
+    let expected = expected_for(alloc, why, fault)?;
+    hint_lines(
+        alloc,
+        path,
+        load,
+        place,
+        what.as_str(),
+        expected.as_str(),
+        "",
+        more.as_str(),
+    )
 }
 
 // What is told of a fault of a load for this network, whose text is the first one.
@@ -174,20 +231,8 @@ fn hint_of(
 ) -> Result<String, AllocError>
     ensures { IfOk result (λ s. IsFaultHint path.now text.now network.now load.now fault.now (string_bytes s)) }
 {
-    let place = fault_place(alloc, load, fault)?;
-    let more = more_of(alloc, text, network, load, fault)?;
-    let what = what_text(alloc, fault)?;
-    let expected = expected(alloc, fault)?;
-    hint_lines(
-        alloc,
-        path,
-        load,
-        place,
-        what.as_str(),
-        expected.as_str(),
-        "",
-        more.as_str(),
-    )
+    let document = document_in(alloc, load)?;
+    hint_by(alloc, path, text, network, load, fault, document.as_ref())
 }
 
 // The hint of a load for this network.

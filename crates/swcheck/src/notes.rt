@@ -6,7 +6,7 @@ use std::alloc::{AllocError, Global};
 use std::fmt::Write;
 use sw_calls::Hints;
 use sw_config::Network;
-use sw_linter::lint_texts;
+use sw_linter::note_texts;
 use sw_text::Ended;
 use sw_text::statuses::{BAD, GOOD};
 
@@ -31,7 +31,7 @@ fn note_lines(alloc: Global, lints: &[String]) -> Result<String, AllocError> {
 
 /// A line for each note on the network. Nothing where there is no memory for it.
 pub(crate) fn notes_on(alloc: Global, network: &Network) -> Option<String> {
-    match lint_texts(alloc, network) {
+    match note_texts(alloc, network) {
         Ok(lints) => note_lines(alloc, &lints).ok(),
         Err(_) => None,
     }

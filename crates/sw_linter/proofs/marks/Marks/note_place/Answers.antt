@@ -28,4 +28,4 @@ returns c =
     let arrivals : c.mark-3.new.marks.items ≡ marked (arrival_key d v) before.arrivals = c.mark-3.ensures ∙ (λ i. marked (arrival i) (view i).arrivals) in
     let notes : c.note.new.notes.items ≡ noted (led_key v) c.args.number before.led = c.note.ensures ∙ (λ i. noted (led i) c.args.number (view i).led) in
     c.note_command.ensures
-    ∙ (λ i. with_command (record { starts = starts i; ends = ends i; arrivals = arrivals i; led = notes i; asking = (view i).asking; other = (view i).other }) c.args.number c.args.flow.now channel)
+    ∙ (λ i. with_command d (record { starts = starts i; ends = ends i; arrivals = arrivals i; led = notes i; asking = (view i).asking; other = (view i).other }) c.args.number c.args.flow.now channel)
