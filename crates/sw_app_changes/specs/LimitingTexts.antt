@@ -6,20 +6,24 @@ use Rattle.sw_mend.specs.Limitings.{Limiting}
 use Rattle.sw_mend.specs.declared.limiting.TargetSlots.{TargetSlots}
 use Rattle.sw_output.specs.ChannelTexts.{node_name}
 use Rattle.sw_output.specs.Lines.{line, spaced}
-use Rattle.sw_app_changes.specs.ExplainTexts.{counted}
+use Rattle.sw_app_changes.specs.ExplainTexts.{ending}
 
 -- how many commands of each flow may be unanswered
 abbrev pub most_words : ℕ → List ℕ
-most_words most = spaced (codes "at most" ∷ counted most (codes "unanswered command") ∷ codes "of each flow" ∷ [])
+most_words most = codes "at most " ++ (decimal most ++ (codes " unanswered command" ++ (ending most ++ codes " of each flow")))
 
 -- how many replies the target of a node has to be able to owe
 abbrev pub target_slots_words : Declaration → TargetSlots → List ℕ
 target_slots_words d more = spaced (decimal more.slots ∷ codes "at" ∷ node_name d more.node ∷ [])
 
--- the same of each of these, with a comma between each two
+-- the same behind a comma
+abbrev pub further_slots_words : Declaration → TargetSlots → List ℕ
+further_slots_words d more = codes ", " ++ target_slots_words d more
+
+-- the same of each of these
 abbrev pub slots_words : Declaration → List TargetSlots → List ℕ
 slots_words d [] = []
-slots_words d (more ∷ others) = codes "slots " ++ (target_slots_words d more ++ flat_map (λ other. codes ", " ++ target_slots_words d other) others)
+slots_words d (more ∷ others) = codes "slots " ++ (target_slots_words d more ++ flat_map (further_slots_words d) others)
 
 -- the limit, or the slots, or both
 abbrev pub limit_and_slots_words : Declaration → Option ℕ → List TargetSlots → List ℕ

@@ -1,6 +1,6 @@
 //! The words of what limits on unanswered commands free a network.
-ghost use Rattle.std.specs.Prelude.{◌≡◌, ◌++◌, codes, IfOk, OnOk, string_bytes};
-ghost use Rattle.sw_app_changes.specs.LimitingTexts.{limit_and_slots_words, limiting_words, most_words, slots_words, target_slots_words};
+ghost use Rattle.std.specs.Prelude.{◌≡◌, ◌++◌, IfOk, OnOk, flat_map, string_bytes};
+ghost use Rattle.sw_app_changes.specs.LimitingTexts.{further_slots_words, limit_and_slots_words, limiting_words, most_words, slots_words, target_slots_words};
 
 use crate::words::ending;
 use std::alloc::{AllocError, Global};
@@ -31,7 +31,21 @@ fn add_target_slots(
     write!(text, "{before}{slots} at {name}")
 }
 
-// The same of each of these, with a comma between each two.
+// Adds the same of each of these, behind a comma each.
+fn add_further_slots(
+    text: &mut String,
+    network: &Network,
+    slots: &[TargetSlots],
+) -> Result<(), AllocError>
+    ensures { OnOk result (string_bytes text.new ≡ string_bytes text.old ++ flat_map (further_slots_words network.now) slots.now) }
+{
+    for more in slots {
+        add_target_slots(text, network, ", ", more)?;
+    }
+    Ok(())
+}
+
+// The same of all of these.
 fn slots_words(
     alloc: Global,
     network: &Network,
@@ -40,12 +54,11 @@ fn slots_words(
     ensures { IfOk result (λ s. string_bytes s ≡ slots_words network.now slots.now) }
 {
     let mut text = String::new(alloc);
-    if let [first, others @ ..] = slots {
-        add_target_slots(&mut text, network, "slots ", first)?;
-        for more in others {
-            add_target_slots(&mut text, network, ", ", more)?;
-        }
-    }
+    let [first, others @ ..] = slots else {
+        return Ok(text);
+    };
+    add_target_slots(&mut text, network, "slots ", first)?;
+    add_further_slots(&mut text, network, others)?;
     Ok(text)
 }
 
