@@ -21,14 +21,14 @@ use Rattle.sw_json.specs.Answering.{OfNetwork, OfNetworkFile, read_value}
 use Rattle.sw_json.specs.VerdictValues.{verdict_value}
 use Rattle.sw_json_changes.specs.MendJson.{IsMendFound}
 use Rattle.sw_json_changes.specs.MendLaws.{MendHasOneAnswer, MendHasStatusOfText, MendTextsAreLines}
-use Rattle.sw_json_changes.specs.MendValues.{mend_value, mending_value, mends_value, pair_value}
+use Rattle.sw_json_changes.specs.MendValues.{limiting_mends, mend_value, mending_value, mends_value, pair_value}
 
 one_value : (d : Declaration) (m n : Mending) → text_laws.IsSameMending m n → mending_value d m ≡ mending_value d n
 one_value d (Misrouted i p fault) (Misrouted j q other) same = λ t. verdict_value d (verdict.Misrouted (same.0 t) (same.1 t) (same.2 t))
 one_value d Free Free same = refl
 one_value d (Cyclic cures) (Cyclic other) same =
     let pairs = same_pairs cures other same in
-    λ t. mends_value (map (mend_value d) (same.changes t) ++ (map (pair_value d) (pairs t) ++ map (mend_value d) (same.units t)))
+    λ t. mends_value (limiting_mends d (same.limiting t) ++ (map (mend_value d) (same.changes t) ++ (map (pair_value d) (pairs t) ++ map (mend_value d) (same.units t))))
 one_value d m n same = absurd same
 
 module _ (one_mending : text_laws.MendingsAreDetermined) where
@@ -67,4 +67,4 @@ ended first second =
     ap (λ l. codes "free" ++ (codes " " ++ l)) (sym (append_assoc first (codes " " ++ (codes "and" ++ (codes " " ++ second))) (codes "\n")))
 
 pub mend_texts_are_lines : MendTextsAreLines
-mend_texts_are_lines = record { single = λ d change. refl; pairs = λ d pair. ended (change_words d pair.first) (change_words d pair.second) }
+mend_texts_are_lines = record { limits = λ d limiting. refl; single = λ d change. refl; pairs = λ d pair. ended (change_words d pair.first) (change_words d pair.second) }

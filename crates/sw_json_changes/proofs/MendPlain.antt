@@ -1,5 +1,5 @@
 -- The values of what frees a network have no floats and are not deep.
-use Rattle.std.proofs.Common.{[], ◌∷◌, ◌++◌, List, All, arith, map}
+use Rattle.std.proofs.Common.{[], ◌∷◌, ◌++◌, ℕ, List, Option, Some, None, All, arith, map}
 use Rattle.std.proofs.lemmas.List.Elements.{All-append, All-cons, All-nil}
 use Rattle.serde_json.specs.Data.{Data}
 use Rattle.sw_app_changes.specs.MendTexts.{told_pairs}
@@ -14,8 +14,11 @@ use Rattle.sw_mend.specs.declared.change.Change.TheVariants.{WithoutReply, Witho
 use Rattle.sw_mend.specs.declared.change.Pair.{Pair}
 use Rattle.sw_mend.specs.declared.change.Trial.{Trial}
 use Rattle.sw_mend.specs.declared.change.Trial.TheVariants.{Without, Split}
+use Rattle.sw_mend.specs.Limitings.{Limiting}
+use Rattle.sw_mend.specs.declared.limiting.TargetSlots.{TargetSlots}
 use Rattle.sw_search.specs.declared.verdict.Verdict.TheVariants as verdict
-use Rattle.sw_json_changes.specs.MendValues.{change_value, cure_values, mend_value, mending_value, pair_value, trial_value}
+use Rattle.sw_json_changes.specs.LimitingValues.{limiting_line_words, limiting_values, most_value, most_values, target_slots_value}
+use Rattle.sw_json_changes.specs.MendValues.{change_value, cure_values, limiting_mends, mend_value, mending_value, pair_value, told_mend, trial_value}
 use Rattle.sw_json_changes.specs.MendLaws.{MendsArePlain}
 
 change_plain : (d : Declaration) (change : Change) → IsPlain 1 (change_value d change)
@@ -45,18 +48,36 @@ pair_plain d pair =
     (All-cons (IsPlain 1) (change_value d pair.first) (change_value d pair.second ∷ []) (change_plain d pair.first)
     (All-cons (IsPlain 1) (change_value d pair.second) [] (change_plain d pair.second) (All-nil (IsPlain 1))))) (with_member text_plain no_more))
 
-each_plain : {A : Type 0} (f : A → Data) → ((x : A) → IsPlain 3 (f x)) → (xs : List A) → All (IsPlain 3) (map f xs)
-each_plain f each [] = All-nil (IsPlain 3)
-each_plain f each (x ∷ xs) = All-cons (IsPlain 3) (f x) (map f xs) (each x) (each_plain f each xs)
+each_plain : {A : Type 0} (n : ℕ) (f : A → Data) → ((x : A) → IsPlain n (f x)) → (xs : List A) → All (IsPlain n) (map f xs)
+each_plain n f each [] = All-nil (IsPlain n)
+each_plain n f each (x ∷ xs) = All-cons (IsPlain n) (f x) (map f xs) (each x) (each_plain n f each xs)
+
+most_plain : (most : Option ℕ) → All (IsPlain 1) (most_values most)
+most_plain None = All-nil (IsPlain 1)
+most_plain (Some most) =
+    All-cons (IsPlain 1) (most_value most) [] (object_plain 0 (with_member text_plain (with_member count_plain no_more))) (All-nil (IsPlain 1))
+
+slots_plain : (d : Declaration) (more : TargetSlots) → IsPlain 1 (target_slots_value d more)
+slots_plain d more = object_plain 0 (with_member text_plain (with_member text_plain (with_member count_plain no_more)))
+
+limiting_plain : (d : Declaration) (limiting : Option Limiting) → All (IsPlain 3) (limiting_mends d limiting)
+limiting_plain d None = All-nil (IsPlain 3)
+limiting_plain d (Some limiting) =
+    All-cons (IsPlain 3) (told_mend (limiting_values d limiting) (limiting_line_words d limiting)) []
+    (object_plain 2 (with_member (list_plain 1 (limiting_values d limiting)
+    (All-append (IsPlain 1) (most_values limiting.most) (map (target_slots_value d) limiting.slots) (most_plain limiting.most)
+    (each_plain 1 (target_slots_value d) (slots_plain d) limiting.slots))) (with_member text_plain no_more))) (All-nil (IsPlain 3))
 
 pub mends_plain : MendsArePlain
 mends_plain = record {
   cures = λ d cures. object_plain 4 (with_member text_plain (with_member (list_plain 3 (cure_values d cures)
+      (All-append (IsPlain 3) (limiting_mends d cures.limiting)
+      (map (mend_value d) cures.changes.items ++ (map (pair_value d) (told_pairs cures) ++ map (mend_value d) cures.units.items)) (limiting_plain d cures.limiting)
       (All-append (IsPlain 3) (map (mend_value d) cures.changes.items) (map (pair_value d) (told_pairs cures) ++ map (mend_value d) cures.units.items)
-      (each_plain (mend_value d) (mend_plain d) cures.changes.items)
+      (each_plain 3 (mend_value d) (mend_plain d) cures.changes.items)
       (All-append (IsPlain 3) (map (pair_value d) (told_pairs cures)) (map (mend_value d) cures.units.items)
-      (each_plain (pair_value d) (pair_plain d) (told_pairs cures))
-      (each_plain (mend_value d) (mend_plain d) cures.units.items)))) no_more));
+      (each_plain 3 (pair_value d) (pair_plain d) (told_pairs cures))
+      (each_plain 3 (mend_value d) (mend_plain d) cures.units.items))))) no_more));
 }
 
 pub mending_plain : (d : Declaration) (m : Mending) → IsPlain 5 (mending_value d m)

@@ -30,6 +30,13 @@ module _ {A : Type 0} (f : A → Data) (xs : List A) (i : ℕ) (start : List Dat
       added made (f x) old now is pushed ∙ ap (λ l. l ++ f x ∷ []) so_far ∙ append_assoc start (map f (take i xs)) (f x ∷ [])
       ∙ ap (λ y. start ++ (map f (take i xs) ++ f y ∷ [])) at ∙ ap (λ l. start ++ l) (sym (map_more f xs i x lt))
 
+  -- the same of an item that is read
+  pub one_read_behind : (x : A) (old now : List Value) (made : Result Value AllocError) → map view old ≡ start ++ map f (take i xs) → i < length xs
+      → IfOk made (λ v. view v ≡ f (get_or xs i x)) → IsOkAnd made (λ v. now ≡ old ++ v ∷ []) → map view now ≡ start ++ map f (take (i + 1) xs)
+  one_read_behind x old now made so_far lt is pushed =
+      added made (f (get_or xs i x)) old now is pushed ∙ ap (λ l. l ++ f (get_or xs i x) ∷ []) so_far ∙ append_assoc start (map f (take i xs)) (f (get_or xs i x) ∷ [])
+      ∙ ap (λ l. start ++ l) (sym (map_more f xs i x lt))
+
   pub all_behind : (values : List Value) → map view values ≡ start ++ map f (take i xs) → length xs ≤ i → map view values ≡ start ++ map f xs
   all_behind values so_far past = so_far ∙ ap (λ l. start ++ map f l) (take_all i xs past)
 

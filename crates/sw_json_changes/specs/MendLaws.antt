@@ -2,10 +2,13 @@
 use Rattle.std.specs.Prelude.{◌≡◌, ◌++◌, Bool, ℕ, List, Option, codes}
 use Rattle.sw_app_changes.specs.MendAnswers.{IsMendAnswer}
 use Rattle.sw_app_changes.specs.declared.mending.Cures.{Cures}
+use Rattle.sw_app_changes.specs.LimitingTexts.{limiting_line}
 use Rattle.sw_app_changes.specs.MendTexts.{mend_line, pair_line}
 use Rattle.sw_text.specs.Ends.{IfLimited}
 use Rattle.sw_config.specs.Entries.{Declaration}
 use Rattle.sw_json.specs.declared.files.Release.{Release}
+use Rattle.sw_json_changes.specs.LimitingValues.{limiting_line_words}
+use Rattle.sw_mend.specs.Limitings.{Limiting}
 use Rattle.sw_mend.specs.declared.change.Pair.{Pair}
 use Rattle.sw_mend.specs.declared.change.Trial.{Trial}
 use Rattle.sw_json.specs.Laws.{AreOneButForFaults, HaveOneStatus}
@@ -25,6 +28,7 @@ MendHasStatusOfText =
 
 -- the texts of changes are the lines of the text answer, but for the LF
 pub record MendTextsAreLines : Type 0 where
+  pub limits : (d : Declaration) (limiting : Limiting) → limiting_line d limiting ≡ limiting_line_words d limiting ++ codes "\n"
   pub single : (d : Declaration) (change : Trial) → mend_line d change ≡ mend_words d change ++ codes "\n"
   pub pairs : (d : Declaration) (pair : Pair) → pair_line d pair ≡ pair_words d pair ++ codes "\n"
 
