@@ -6,31 +6,26 @@ use Rattle.sw_text.specs.declared.answer.Answer.{Answer}
 use Rattle.sw_text.specs.Ends.{Says}
 use Rattle.sw_cert.specs.Text.{Contents}
 use Rattle.sw_config.specs.Entries.{Declaration}
-use Rattle.sw_cycle.specs.Cycles.{CycleEntry}
 use Rattle.sw_flow.specs.declared.fault.RouteFault.{RouteFault}
 use Rattle.sw_flow.specs.declared.place.Place.{Place}
 use Rattle.sw_search.specs.Verdicts.{IsVerdict}
 use Rattle.sw_search.specs.declared.verdict.Verdict.{Verdict}
 use Rattle.sw_search.specs.declared.verdict.Verdict.TheVariants as verdict
-use Rattle.sw_app_changes.specs.declared.mending.Cures.{Cures}
 use Rattle.sw_app_changes.specs.declared.mending.Mending.{Mending}
-use Rattle.sw_app_changes.specs.declared.mending.Mending.TheVariants.{Misrouted, Free, Cyclic}
+use Rattle.sw_app_changes.specs.declared.mending.Mending.TheVariants.{Misrouted, Free}
 use Rattle.sw_app_changes.specs.MendAnswers.{IsNetworkAnswer}
 use Rattle.sw_app_changes.specs.MendTexts.{mending_status, mending_text}
-use Rattle.sw_app_changes.specs.Mendings.{AreCures, IsMending}
+use Rattle.sw_app_changes.specs.Mendings.{IsMending}
 
 pub answered : (pairs : Bool) (d : Declaration) (m : Mending) (r : Result Answer AllocError) → IsMending pairs d m
     → IfOk r (λ a. Says (mending_text d m) (mending_status m) (string_bytes a.text) a.status) → IfOk r (λ a. IsNetworkAnswer pairs d (string_bytes a.text) a.status)
 answered pairs d m (Ok a) is h = (m, is, h)
 answered pairs d m (Err x) is h = h
 
--- by the verdict: the flow that is not well routed, that the network is free, and what frees it
+-- by the verdict: the flow that is not well routed, and that the network is free
 module _ (pairs : Bool) (d : Declaration) (v : Verdict) (is : IsVerdict d v) where
   pub misrouted : (flow : ℕ) (place : Place) (fault : RouteFault) → v ≡ verdict.Misrouted flow place fault → IsMending pairs d (Misrouted flow place fault)
   misrouted flow place fault same = subst (IsVerdict d) same is
 
   pub free : (contents : Contents) → v ≡ verdict.Free contents → IsMending pairs d Free
   free contents same = (contents, subst (IsVerdict d) same is)
-
-  pub cyclic : (cycle : CycleEntry) (cures : Cures) → v ≡ verdict.Cyclic cycle → AreCures pairs d cures → IsMending pairs d (Cyclic cures)
-  cyclic cycle cures same are = ((cycle, subst (IsVerdict d) same is), are)

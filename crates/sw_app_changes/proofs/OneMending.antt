@@ -1,6 +1,6 @@
 -- A network has one mending, and that one text and one status.
-use Rattle.std.proofs.Common.{◌≡◌, ◌∙◌, ℕ, Bool, false, true, Global, List, Option, Some, None, Vec, [], ◌∷◌, ap, is_some, length, refl, sym}
-use Rattle.std.specs.Prelude.{◌==◌, ◌++◌, ◌&&◌, ◌||◌, IfSome, flat_map, not, if◌then◌else◌}
+use Rattle.std.proofs.Common.{◌≡◌, ◌∙◌, ℕ, Bool, Global, List, Option, Some, None, Vec, [], ◌∷◌, ap, is_some, length, refl, sym}
+use Rattle.std.specs.Prelude.{◌==◌, ◌++◌, ◌&&◌, ◌||◌, IfSome, flat_map, if◌then◌else◌}
 use Rattle.std.specs.Option.{option_map, option_map_or}
 use Rattle.std.proofs.lemmas.Bool.{false≢true}
 use Rattle.sw_config.specs.Entries.{Declaration}

@@ -12,7 +12,6 @@ use Rattle.sw_text.specs.Ends.{IfLimited}
 use Rattle.sw_text.specs.FaultTexts.{fault_text}
 use Rattle.sw_config.specs.Entries.{Declaration}
 use Rattle.sw_file.specs.Network.{network_text}
-use Rattle.sw_mend.specs.declared.change.Pair.{Pair}
 use Rattle.sw_output.specs.Lines.{line}
 use Rattle.sw_search.specs.declared.verdict.Verdict.TheVariants as verdict
 use Rattle.sw_text.specs.declared.fault.TextFault.{TextFault}

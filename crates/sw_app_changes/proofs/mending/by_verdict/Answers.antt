@@ -1,4 +1,4 @@
-use Rattle.sw_app_changes.proofs.MendAnswered.{cyclic, free, misrouted}
+use Rattle.sw_app_changes.proofs.MendAnswered.{free, misrouted}
 use Rattle.sw_app_changes.proofs.mending.by_verdict.Goals as goal
 
 pub returns-in-Misrouted : goal.returns-in-Misrouted
