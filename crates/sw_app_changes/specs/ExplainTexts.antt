@@ -211,13 +211,13 @@ tangles_text d all ts = flat_map (tangle_text d all) ts ++ total_line ts
 
 -- ---- all together
 
--- what it hangs on where commands are limited, and what it never does
+-- what it depends on where commands are limited, and what it never does
 abbrev pub conditions : List ℕ
 conditions =
     codes "buffers and arbiters do not change this; where the file limits unanswered commands, these limits have to be kept, "
     ++ codes "and others, or other slots, may change it"
 
--- that nothing can lock up, what that hangs on, and what is taken for granted
+-- that nothing can lock up, what that depends on, and what is taken for granted
 abbrev pub free_text : List ℕ
 free_text = line (codes "free" ∷ [])
     ++ (line (codes "no channels can wait for one another in a circle; swcheck decide writes the certificate" ∷ [])

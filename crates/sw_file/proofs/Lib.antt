@@ -24,6 +24,7 @@ pub mod RowEntries
 mod RowRoutes
 mod Raised
 mod Renumbered
+mod Unlimited
 mod NewTables
 mod NewSwitches
 mod NewParts

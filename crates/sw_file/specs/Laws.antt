@@ -2,6 +2,7 @@
 use Rattle.std.specs.Prelude.{◌≡◌, ◌≢◌, ◌↔◌, ℕ, suc, true, false, pos, All, AllPairs, List, [], length, take, slice_get, Some, Result, Ok}
 use Rattle.toml.specs.Data.{Members, integer}
 use Rattle.sw_config.specs.Entries.{Declaration, part_names, flow_names, all_flows}
+use Rattle.sw_config.specs.Limits.{HasNoLimits, is_limited}
 use Rattle.sw_config.specs.Valid.{IsValid}
 use Rattle.sw_text.specs.declared.keys.Key.{Key}
 use Rattle.sw_text.specs.declared.keys.Key.TheVariants.{Version as VersionKey, Node, Switch, Link, Flow, Target, Route, Reply}
@@ -104,6 +105,15 @@ as_version_three ms = with_key VersionKey (integer (pos 3)) ms
 -- a file of version 2 becomes one of version 3 by its number alone, and declares the same network
 abbrev pub VersionTwoIsKept : Type 0
 VersionTwoIsKept = (ms : Members) (d : Declaration) → version_of ms ≡ Ok Two → network_of ms ≡ Ok d → (version_of (as_version_three ms) ≡ Ok Three) × (network_of (as_version_three ms) ≡ Ok d)
+
+-- no node and no flow has a limit on its unanswered commands, and so no flow is limited
+pub record IsUnlimited (d : Declaration) : Type 0 where
+  pub none : HasNoLimits d
+  pub flows : All (λ f. is_limited d.nodes f ≡ false) (all_flows d)
+
+-- only a file of version 3 limits anything
+abbrev pub OlderFilesAreUnlimited : Type 0
+OlderFilesAreUnlimited = (ms : Members) (version : Version) (d : Declaration) → version_of ms ≡ Ok version → version ≢ Three → network_of ms ≡ Ok d → IsUnlimited d
 
 -- Rows are the longest: no row's first entry goes on with the row before it.
 abbrev pub RowsAreLongest : Type 0

@@ -1,5 +1,5 @@
 //! What reading a network file comes to, in each version, and what the rows of a migrated one are.
-ghost use Rattle.sw_file.specs.Laws.{ReadsEachEntry, RefusesUnknownKeys, NetworksAreReadExactly, ReadNetworksAreValid, ReadNamesAreNames, VersionTwoIsKept, RowsAreLongest};
+ghost use Rattle.sw_file.specs.Laws.{ReadsEachEntry, RefusesUnknownKeys, NetworksAreReadExactly, ReadNetworksAreValid, ReadNamesAreNames, VersionTwoIsKept, OlderFilesAreUnlimited, RowsAreLongest};
 
 /// Each entry of a network that is read is what the table of its number declares.
 pub fn each_entry_is_read()
@@ -32,6 +32,12 @@ pub fn read_names_are_names()
 /// The document of a network file of version 2 declares the same network with the number 3 as its version.
 pub fn version_two_is_kept()
     ensures { VersionTwoIsKept }
+{}
+
+/// The document of a network file of version 1 or 2 declares a network in which no node and no flow has a limit on its unanswered
+/// commands, so no flow is limited.
+pub fn older_files_are_unlimited()
+    ensures { OlderFilesAreUnlimited }
 {}
 
 /// Rows are the longest.

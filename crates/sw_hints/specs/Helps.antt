@@ -28,8 +28,8 @@ meant_help (Some text) = codes "is '" ++ (text ++ codes "' meant?")
 -- a key that a table may not have: one of version 2, one of version 3, a port beside a node, a key of the document below a header, or one that is like a known key
 abbrev pub key_help : Version → Section → List ℕ → List ℕ
 key_help version section name =
-    if is_known (new_keys_of section) name then codes "this key is of version 2 only: write version = 2"
-    else if is_known (newest_keys_of section) name then codes "this key is of version 3 only: write version = 3"
+    if is_known (new_keys_of section) name then codes "this key is there from version 2 on: write version = 2"
+    else if is_known (newest_keys_of section) name then codes "this key is there from version 3 on: write version = 3"
     else if is_known (port_keys section) name then codes "a node has no ports: this key stands beside the name of a switch"
     else if is_known (outer_keys section) name
     then codes "a key that stands below a header, as [[switch]], belongs to that table: write it above the first header"

@@ -60,10 +60,16 @@ fn key_help(
     ensures { IfOk result (λ s. string_bytes s ≡ key_help version section name.now) }
 {
     if is_one_of(new_keys_of(section), name) {
-        return String::from_str(alloc, "this key is of version 2 only: write version = 2");
+        return String::from_str(
+            alloc,
+            "this key is there from version 2 on: write version = 2",
+        );
     }
     if is_one_of(newest_keys_of(section), name) {
-        return String::from_str(alloc, "this key is of version 3 only: write version = 3");
+        return String::from_str(
+            alloc,
+            "this key is there from version 3 on: write version = 3",
+        );
     }
     if is_one_of(port_keys(section), name) {
         return String::from_str(
