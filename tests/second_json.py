@@ -111,10 +111,22 @@ def change(text):
     raise ValueError(text)
 
 
+LIMITING = re.compile(r"free with (?:at most (\d+) unanswered commands? of each flow)?(?:, and )?(?:slots ((?:\d+ at \S+(?:, )?)+))?")
+
+
+def limiting(found):
+    """A limit on the commands of each flow, and slots of targets."""
+    limits = [{"kind": "limit", "outstanding": int(found[1])}] if found[1] else []
+    named = [it.split(" at ") for it in found[2].split(", ")] if found[2] else []
+    return limits + [{"kind": "slots", "node": node, "slots": int(slots)} for slots, node in named]
+
+
 def mend(line):
     """Of a line of `mend`."""
-    found = SPLIT.fullmatch(line)
-    if found:
+    found, limited = SPLIT.fullmatch(line), LIMITING.fullmatch(line)
+    if limited:
+        changes = limiting(limited)
+    elif found:
         changes = [{"kind": "target link", "node": found[1], "port": int(found[2]), "switch": found[3]}]
     else:
         changes = [change(it) for it in line.removeprefix("free without ").split(" and without ")]
