@@ -1,25 +1,20 @@
-#!/usr/bin/env python3
-"""Compares what the completions of share/ give in bash, zsh and fish with what they should, and lets three readers of manuals read the man page.
+"""the completions and the man page of share/ beside shells and readers of manuals
 
-    tests/compare_share [--program FILE]
-
-CASES has lines up to the cursor, and what can stand there; to these come, of each command, the options that its help tells. zsh is typed to on a
-terminal; bash's function is called, and fish asked. `groff -ww`, `mandoc -T lint` and `man --warnings` have to read the page without a warning, and each
-word and option has to stand in what `man` makes of it. A shell or reader that is not installed is told, and passed over; bash has to be there. It prints
-each difference, and the status is then 1. The program is the proved one, unless FILE is given.
+CASES has lines up to the cursor, and what can stand there; to these come, of each command, the options that its help tells. zsh is typed to on a terminal;
+bash's function is called, and fish asked. `groff -ww`, `mandoc -T lint` and `man --warnings` have to read the page without a warning, and each word and option
+has to stand in what `man` makes of it. A shell or reader that is not installed is told, and passed over; bash has to be there.
 """
-import argparse
 import os
 import pty
 import re
 import shutil
 import subprocess
-import sys
 import tempfile
 import threading
 import time
 
-TOP = os.path.dirname(os.path.dirname(os.path.realpath(__file__)))
+from .shared import TOP
+
 PAGE = f"{TOP}/share/man/man1/swcheck.1"
 FILES = ["net.toml", "new.toml", "a.cert", "a.load", "a.schedule", "notes.txt", "sub/inner.toml"]
 # What stands behind each line: texts, or files that end so, and folders.
@@ -200,18 +195,13 @@ def compare_page(helps):
     return found, ", ".join(tried)
 
 
-def main():
-    words = argparse.ArgumentParser()
-    words.add_argument("--program")
-    given = words.parse_args()
-    if given.program is None:
-        subprocess.run([f"{TOP}/swcheck", "--all", "--help"], stdout=subprocess.DEVNULL, check=True)
-    names, helps = helps_of(os.path.abspath(given.program or f"{TOP}/crates/swcheck/out/swcheck"))
+def add_words(parser):
+    pass
+
+
+def compare(given):
+    names, helps = helps_of(os.path.abspath(given.program))
     in_shells, shells = compare_shells(names, helps)
     in_page, readers = compare_page(helps)
-    print(f"{''.join(in_shells + in_page)}tests/compare_share: {shells}; the page by {readers}; {len(in_shells + in_page)} differences")
-    return 1 if in_shells or in_page else 0
-
-
-if __name__ == "__main__":
-    sys.exit(main())
+    print(f"{''.join(in_shells + in_page)}{shells}; the page by {readers}; {len(in_shells + in_page)} differences")
+    return len(in_shells + in_page)

@@ -1,29 +1,21 @@
-#!/usr/bin/env python3
-"""Compares `swcheck check` with tools/check_certificate.py, in what they print and in their statuses.
+"""check beside tools/check_certificate.py, in what they print and in their statuses
 
-    tests/compare_checkers [--examples] [--networks N] [--long N] [--seed S] [--program FILE]
-
-It takes each network of examples/, and then N random ones (10,000 if not said; none with --examples), each with a certificate and with
-damaged ones, and some network files damaged. Then a network whose certificate is so long that parts of it are read side by side, with N
-damaged certificates (12 if not said). It prints each difference and where its files are kept, then how often each answer came,
-with its status in front; its own status is 1 if there was a difference. The program is the proved one, unless FILE is given.
+Each network of examples/, and then random ones, each with a certificate and with damaged ones, and some network files damaged. Then a network whose
+certificate is so long that parts of it are read side by side, with damaged certificates. It tells where the files of each difference are kept, and then how
+often each answer came, with its status in front.
 """
-import argparse
 import collections
-import glob
 import os
 import random
 import re
 import subprocess
-import sys
 import tempfile
 
-sys.dont_write_bytecode = True
-TOP = os.path.dirname(os.path.dirname(os.path.realpath(__file__)))
-sys.path[:0] = [f"{TOP}/tools", f"{TOP}/tests"]
 from check_certificate import answer
 from random_network import random_network
 from second_verdict import Verdict
+
+from .shared import TOP, add_random, numbers_of, read, samples
 
 CHECKER = f"{TOP}/tools/check_certificate.py"
 COUNTED = re.compile(r"(flow|place|number|channels|flows) ")
@@ -214,10 +206,10 @@ def at_limits():
 # The comparison.
 
 
-class Comparison:
+class Answers:
     def __init__(self, program):
         self.program, self.folder = program, tempfile.mkdtemp(prefix="compare-checkers-")
-        self.outcomes, self.differences = collections.Counter(), 0
+        self.kinds, self.differences = collections.Counter(), 0
 
     def ran(self, *words):
         done = subprocess.run(words, capture_output=True)
@@ -234,16 +226,13 @@ class Comparison:
 
     def check(self, network, certificate, as_script=False):
         files = self.write("network.toml", network), self.write("certificate", certificate)
-        if as_script:
-            ours = self.ran(CHECKER, *files)
-        else:
-            ours = answer(network.encode(), certificate.encode())
+        ours = self.ran(CHECKER, *files) if as_script else answer(network.encode(), certificate.encode())
         self.note(files, self.ran(self.program, "check", *files), ours)
 
     def note(self, files, theirs, ours):
         words = theirs[0].decode(errors="replace").split()
         depth = 3 if words[1:2] in (["C6"], ["F8"]) else 2
-        self.outcomes[" ".join([str(theirs[1]), *words[:depth]])] += 1
+        self.kinds[" ".join([str(theirs[1]), *words[:depth]])] += 1
         if theirs != ours:
             self.differences += 1
             for file in files:
@@ -251,48 +240,46 @@ class Comparison:
             print(f"{' '.join(f'{file}-{self.differences}' for file in files)}: swcheck {theirs}, check_certificate {ours}", flush=True)
 
     def end(self):
-        for outcome, count in sorted(self.outcomes.items()):
-            print(f"{count:7} {outcome}")
-        print(f"{sum(self.outcomes.values())} compared, {self.differences} differences")
+        for kind, count in sorted(self.kinds.items()):
+            print(f"{count:7} {kind}")
+        print(f"{sum(self.kinds.values())} compared, {self.differences} differences")
         if not self.differences:
             for name in os.listdir(self.folder):
                 os.remove(f"{self.folder}/{name}")
             os.rmdir(self.folder)
-        return 1 if self.differences else 0
+        return self.differences
 
 
-def compare_examples(comparison, numbers):
-    with open(f"{TOP}/examples/turn.cert") as file:
-        turn = file.read()
-    for path in sorted(glob.glob(f"{TOP}/examples/*.toml") + glob.glob(f"{TOP}/examples/networks/*.toml")):
-        with open(path) as file:
-            network = file.read()
-        decided, status = comparison.decide(network)
+def compare_examples(answers, numbers):
+    turn = read(f"{TOP}/examples/turn.cert")
+    for path in samples():
+        network = read(path)
+        decided, status = answers.decide(network)
         certificate = decided.decode() if status == 0 else turn
-        comparison.check(network, certificate, as_script=True)
-        comparison.check(network, numbers.choice(DAMAGES)(numbers, certificate.splitlines()))
-        comparison.check(damaged_network(numbers, network), certificate)
+        answers.check(network, certificate, as_script=True)
+        answers.check(network, numbers.choice(DAMAGES)(numbers, certificate.splitlines()))
+        answers.check(damaged_network(numbers, network), certificate)
     for network in at_limits():
-        comparison.check(network, turn)
+        answers.check(network, turn)
     # a file that can't be read, as the network and as the certificate
-    for files in ((f"{comparison.folder}/none", f"{TOP}/examples/turn.cert"), (f"{TOP}/examples/turn.toml", comparison.folder)):
-        comparison.note((), comparison.ran(comparison.program, "check", *files), comparison.ran(CHECKER, *files))
+    for files in ((f"{answers.folder}/none", f"{TOP}/examples/turn.cert"), (f"{TOP}/examples/turn.toml", answers.folder)):
+        answers.note((), answers.ran(answers.program, "check", *files), answers.ran(CHECKER, *files))
 
 
-def compare_random(comparison, numbers):
+def compare_random(answers, numbers):
     drawn = random_network(numbers, nodes=4, switches=4, flows=8)
     network = drawn.text() if numbers.random() < 0.5 else of_version_2(numbers, drawn.text())
-    decided, status = comparison.decide(network)
+    decided, status = answers.decide(network)
     if status == 0:
         certificate = decided.decode()
     else:
         # all places that can be reached, with some numbers: no certificate is right
         verdict = Verdict(drawn)
         certificate = text_of(verdict.certificate_lines([numbers.randrange(9) for _ in verdict.starts]))
-    comparison.check(network, certificate)
+    answers.check(network, certificate)
     for _ in range(3):
-        comparison.check(network, numbers.choice(DAMAGES)(numbers, certificate.splitlines()))
-    comparison.check(damaged_network(numbers, network), certificate)
+        answers.check(network, numbers.choice(DAMAGES)(numbers, certificate.splitlines()))
+    answers.check(damaged_network(numbers, network), certificate)
 
 
 def long_network(numbers, switches=60, flows=1500):
@@ -311,34 +298,25 @@ def long_network(numbers, switches=60, flows=1500):
     return "\n".join(text) + "\n"
 
 
-def compare_long(comparison, numbers, count):
+def compare_long(answers, numbers, count):
     network = long_network(numbers)
-    decided, status = comparison.decide(network)
+    decided, status = answers.decide(network)
     assert status == 0 and len(decided) > 300_000, (status, len(decided))
     certificate = decided.decode()
-    comparison.check(network, certificate)
+    answers.check(network, certificate)
     for _ in range(count):
-        comparison.check(network, numbers.choice(DAMAGES)(numbers, certificate.splitlines()))
+        answers.check(network, numbers.choice(DAMAGES)(numbers, certificate.splitlines()))
 
 
-def main():
-    words = argparse.ArgumentParser()
-    words.add_argument("--examples", action="store_true")
-    words.add_argument("--networks", type=int, default=10_000)
-    words.add_argument("--long", type=int, default=12)
-    words.add_argument("--seed", type=int, default=1)
-    words.add_argument("--program")
-    given = words.parse_args()
-    if given.program is None:
-        subprocess.run([f"{TOP}/swcheck", "--all", "--help"], stdout=subprocess.DEVNULL, check=True)
-    comparison = Comparison(given.program or f"{TOP}/crates/swcheck/out/swcheck")
-    numbers = random.Random(given.seed)
-    compare_examples(comparison, numbers)
-    for _ in range(0 if given.examples else given.networks):
-        compare_random(comparison, numbers)
-    compare_long(comparison, numbers, given.long)
-    return comparison.end()
+def add_words(parser):
+    add_random(parser, 10_000)
+    parser.add_argument("--long", metavar="COUNT", type=int, default=12, help="how many damaged long certificates, 12 if left out")
 
 
-if __name__ == "__main__":
-    sys.exit(main())
+def compare(given):
+    answers, numbers = Answers(given.program), numbers_of(given)
+    compare_examples(answers, numbers)
+    for _ in range(given.random):
+        compare_random(answers, numbers)
+    compare_long(answers, numbers, given.long)
+    return answers.end()

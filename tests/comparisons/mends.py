@@ -1,30 +1,29 @@
-#!/usr/bin/env python3
-"""Compares what `swcheck mend` tells of the sample networks with single changes that are made and decided here, by tests/second_verdict.py.
+"""mend, and mend --pairs, beside single changes and pairs that are made and decided by tests/second_verdict.py
 
-    tests/compare_mends [--pairs] [BINARY]                        by default the proved program
-    tests/compare_mends [--pairs] --random COUNT SEED [BINARY]    random networks, no more than half of which are free already
-    tests/compare_mends [--pairs] --show                          what is expected, and no program
-
-With --pairs it compares what `swcheck mend --pairs` tells, on random networks of which no more than half are answered without a pair being
-tried: two of them side by side, so that often no single change frees both. It prints each difference and how many files were compared; its
-status is 1 where anything differs.
+The sample networks, and random ones, no more than half of which are free already. With --pairs it compares `mend --pairs`, on random networks of which no
+more than half are answered without a pair being tried: two of them side by side, so that often no single change frees both. With --show it prints the rows
+that are expected instead.
 """
 import copy
-import glob
 import itertools
 import os
-import random
 import re
-import subprocess
-import sys
 import tempfile
 from collections import Counter
 
 from random_network import add_limits, random_network
 from sample_network import Sample, tables
 
+from .shared import TOP, add_random, called, numbers_of, samples, write
+
 MAX_NODES = MAX_LINKS = 1024
-TOP = os.path.dirname(os.path.dirname(os.path.realpath(__file__)))
+NAMES = ("networks/*.toml", "line.toml", "ring.toml", "turn.toml", "duel.toml", "group.toml", "bad.toml", "star.toml")
+
+
+def add_words(parser):
+    add_random(parser, 0)
+    parser.add_argument("--pairs", action="store_true", help="compare `mend --pairs`")
+    parser.add_argument("--show", action="store_true", help="print the rows that are expected")
 
 
 class Change:
@@ -204,17 +203,12 @@ def words(low, high):
     return f"address {low}" if low == high else f"addresses {low} to {high}"
 
 
-def differs(binary, file, expected, pairs):
+def differs(program, file, expected, pairs):
     """Tells of a file of which the program says something else."""
-    found = subprocess.run([binary, "mend", file] + ["--pairs"] * pairs, capture_output=True, text=True)
-    if (found.stdout, found.returncode) != expected:
-        print(f"{file}: expected {expected}, found {(found.stdout, found.returncode)}")
-    return (found.stdout, found.returncode) != expected
-
-
-def samples():
-    names = ["networks/*.toml", "line.toml", "ring.toml", "turn.toml", "duel.toml", "group.toml", "bad.toml", "star.toml"]
-    return sorted(file for name in names for file in glob.glob(f"{TOP}/examples/{name}"))
+    found = called(program, "mend", file, *["--pairs"] * pairs)
+    if found != expected:
+        print(f"{file}: expected {expected}, found {found}")
+    return found != expected
 
 
 def side_by_side(one, other):
@@ -242,43 +236,37 @@ def kind_of(told, pairs):
     return "answered without a pair" if pairs and not by_pairs else "free already" if told == "free already\n" else "others"
 
 
-def compare_random(count, seed, binary, pairs):
-    """Compares the program on random networks, until so many are compared."""
-    numbers, kinds, often = random.Random(seed), Counter(), "answered without a pair" if pairs else "free already"
-    with tempfile.TemporaryDirectory() as folder:
-        while kinds.total() < count:
-            with open(f"{folder}/network.toml", "w", encoding="utf-8") as text:
-                text.write(some_network(numbers, pairs))
-            expected = Changing(tables(text.name)).expected(pairs)
-            kind = kind_of(expected[0], pairs)
-            if kind == often and 2 * kinds[often] >= count:
-                continue
-            kinds[kind] += 1
-            if differs(binary, text.name, expected, pairs):
-                print(open(text.name, encoding="utf-8").read())
-                return 1
-    print(f"{count} random networks, {kinds[often]} of them {often}: none differs")
+def differing_random(given, folder):
+    """How many of so many random networks differ, no more than one: it stops there."""
+    numbers, kinds, often = numbers_of(given), Counter(), "answered without a pair" if given.pairs else "free already"
+    while kinds.total() < given.random:
+        text = some_network(numbers, given.pairs)
+        file = write(f"{folder}/network.toml", text)
+        expected = Changing(tables(file)).expected(given.pairs)
+        kind = kind_of(expected[0], given.pairs)
+        if kind == often and 2 * kinds[often] >= given.random:
+            continue
+        kinds[kind] += 1
+        if differs(given.program, file, expected, given.pairs):
+            print(text)
+            return 1
+    print(f"{given.random} random networks, {kinds[often]} of them {often}")
     return 0
 
 
-def main():
-    words = sys.argv[1:]
-    pairs, words = (True, words[1:]) if words[:1] == ["--pairs"] else (False, words)
-    if words == ["--show"]:
-        for file in samples():
-            told, status = Changing(tables(file)).expected(pairs)
-            name = os.path.relpath(file, f"{TOP}/examples")
-            print(f"> swcheck mend {name}{' --pairs' * pairs}\n{told}status {status}", flush=True)
+def show(files, pairs):
+    for file in files:
+        told, status = Changing(tables(file)).expected(pairs)
+        name = os.path.relpath(file, f"{TOP}/examples")
+        print(f"> swcheck mend {name}{' --pairs' * pairs}\n{told}status {status}", flush=True)
+
+
+def compare(given):
+    files = samples(*NAMES)
+    if given.show:
+        show(files, given.pairs)
         return 0
-    random_words, words = (words[1:3], words[3:]) if words[:1] == ["--random"] else ([], words)
-    binary = words[0] if words else f"{TOP}/crates/swcheck/out/swcheck"
-    if random_words:
-        return compare_random(int(random_words[0]), int(random_words[1]), binary, pairs)
-    files = samples()
-    differing = sum(differs(binary, file, Changing(tables(file)).expected(pairs), pairs) for file in files)
+    differing = sum(differs(given.program, file, Changing(tables(file)).expected(given.pairs), given.pairs) for file in files)
     print(f"{len(files)} files, {differing} differ")
-    return 1 if differing else 0
-
-
-if __name__ == "__main__":
-    sys.exit(main())
+    with tempfile.TemporaryDirectory() as folder:
+        return differing + (differing_random(given, folder) if given.random else 0)

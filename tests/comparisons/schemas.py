@@ -1,28 +1,20 @@
-#!/usr/bin/env python3
-"""Compares schema/network.schema.json and schema/load.schema.json with what the program takes.
+"""schema/network.schema.json and schema/load.schema.json beside what the program takes
 
-    tests/compare_schemas [--program FILE]
-
-A schema has to take each example and each of some right files, and to refuse each of them with a key dropped, a key added, or a value
-changed (its type, its range, its length), exactly where the program gives one of the faults that schema/README.md names. It prints
-each difference, and how many texts there were of each kind; its status is 1 if there was a difference. The program is the proved one,
-unless FILE is given. It wants Python's package jsonschema.
+A schema has to take each example and each of some right files, and to refuse each of them with a key dropped, a key added, or a value changed (its type, its
+range, its length), exactly where the program gives one of the faults that schema/README.md names. It tells how many texts there were of each kind. It wants
+Python's package jsonschema.
 """
-import argparse
 import collections
 import copy
-import glob
 import json
-import os
 import re
-import subprocess
-import sys
 import tempfile
 import tomllib
 
 from jsonschema import Draft202012Validator
 
-TOP = os.path.dirname(os.path.dirname(os.path.realpath(__file__)))
+from .shared import TOP, called, document, read, samples, write
+
 TARGET = {"logical": 254, "key": 0, "start": 0, "size": 64, "slots": 2}
 ROUTE = {"address": 40, "last": 41, "ports": [2], "delete": False}
 NETWORK = {
@@ -51,56 +43,42 @@ UNTOLD = re.compile(
 )
 
 
-def toml(value):
-    if isinstance(value, bool):
-        return str(value).lower()
-    if isinstance(value, dict):
-        return "{" + ", ".join(f"{key} = {toml(it)}" for key, it in value.items()) + "}"
-    if isinstance(value, list):
-        return f"[{', '.join(map(toml, value))}]"
-    return json.dumps(value) if isinstance(value, str) else str(value)
-
-
-def text_of(document):
-    return "".join(f"{key} = {toml(value)}\n" for key, value in document.items())
-
-
-def tables(value, path=()):
+def ways(value, path=()):
     """Gives the way to each table in a value."""
     if isinstance(value, dict):
         yield path
     inner = value.items() if isinstance(value, dict) else enumerate(value) if isinstance(value, list) else ()
     for key, it in inner:
-        yield from tables(it, (*path, key))
+        yield from ways(it, (*path, key))
 
 
-def changed(document, path, change):
-    """The document with a change made in the table to which the path leads."""
-    document = table = copy.deepcopy(document)
+def changed(found, path, change):
+    """The tables with a change made in the one to which the path leads."""
+    found = table = copy.deepcopy(found)
     for key in path:
         table = table[key]
     change(table)
-    return document
+    return found
 
 
-def variants(document):
-    """The document, and with each key of each table dropped, written otherwise, and given each value."""
-    yield document
-    for path in tables(document):
-        table = document
+def variants(found):
+    """The tables, and with each key of each of them dropped, written otherwise, and given each value."""
+    yield found
+    for path in ways(found):
+        table = found
         for key in path:
             table = table[key]
         for added in ("unknown", "Name", *NEWER, *NEWEST):
-            yield changed(document, path, lambda it: it.setdefault(added, 41))
+            yield changed(found, path, lambda it: it.setdefault(added, 41))
         for key in table:
-            yield changed(document, path, lambda it: it.pop(key))
+            yield changed(found, path, lambda it: it.pop(key))
             for value in [*{int: NUMBERS, str: TEXTS, list: LISTS}.get(type(table[key]), []), *OF_EACH_TYPE]:
-                yield changed(document, path, lambda it: it.update({key: value}))
+                yield changed(found, path, lambda it: it.update({key: value}))
 
 
-def without(keys, document, version):
+def without(keys, found, version):
     """The same network as a file of that version, without these keys."""
-    kept = json.loads(json.dumps(document), object_hook=lambda it: {key: value for key, value in it.items() if key not in keys})
+    kept = json.loads(json.dumps(found), object_hook=lambda it: {key: value for key, value in it.items() if key not in keys})
     return {**kept, "version": version}
 
 
@@ -120,14 +98,14 @@ def long_loads():
         yield {"packet": [{"flow": "f", "cargo": "AA", "count": 1000}] * 65 + [{"flow": "f", "cargo": "AA", "count": last}]}
 
 
-class Comparison:
+class Texts:
     def __init__(self, program, folder):
         self.program, self.folder = program, folder
-        self.counts, self.differences, self.seen = collections.Counter(), 0, set()
+        self.kinds, self.differences, self.seen = collections.Counter(), 0, set()
 
     def fault(self, *words):
         """The first line that the program prints, where it is a fault."""
-        printed = subprocess.run([self.program, *words], capture_output=True, text=True).stdout.split("\n")[0]
+        printed = called(self.program, *words)[0].split("\n")[0]
         return printed if printed.startswith("fault") else ""
 
     def compare(self, schema, text, *words):
@@ -135,9 +113,7 @@ class Comparison:
         if text in self.seen:
             return
         self.seen.add(text)
-        path = f"{self.folder}/text"
-        with open(path, "w") as file:
-            file.write(text)
+        path = write(f"{self.folder}/text", text)
         fault = self.fault(*(path if word is None else word for word in words))
         is_refused, is_told = not schema.is_valid(tomllib.loads(text)), bool(TOLD.match(fault))
         if is_refused == is_told:
@@ -148,53 +124,42 @@ class Comparison:
             kind = "told differently"
             self.differences += 1
             print(f"{'refused' if is_refused else 'taken'} by the schema, by the program: {fault}\n{text[:2000]}")
-        self.counts[f"{kind}: {' '.join(fault.split()[:3 if fault.startswith('fault F8') else 2]) or 'no fault'}"] += 1
+        self.kinds[f"{kind}: {' '.join(fault.split()[:3 if fault.startswith('fault F8') else 2]) or 'no fault'}"] += 1
 
 
 def schema(name):
-    with open(f"{TOP}/schema/{name}.schema.json") as file:
-        read = json.load(file)
-    Draft202012Validator.check_schema(read)
-    return Draft202012Validator(read)
+    found = json.loads(read(f"{TOP}/schema/{name}.schema.json"))
+    Draft202012Validator.check_schema(found)
+    return Draft202012Validator(found)
 
 
-def read(path):
-    with open(path) as file:
-        return file.read()
-
-
-def compare_networks(comparison):
+def compare_networks(texts):
     network = schema("network")
-    for path in sorted(glob.glob(f"{TOP}/examples/**/*.toml", recursive=True)):
-        comparison.compare(network, read(path), "decide", None)
+    for path in samples("**/*.toml"):
+        texts.compare(network, read(path), "decide", None)
     old, older = without(NEWEST, NETWORK, 2), without(NEWER + NEWEST, NETWORK, 1)
-    for document in [*variants(NETWORK), *variants(old), *variants(older), *long_networks()]:
-        comparison.compare(network, text_of(document), "decide", None)
+    for tables in [*variants(NETWORK), *variants(old), *variants(older), *long_networks()]:
+        texts.compare(network, document(tables), "decide", None)
 
 
-def compare_loads(comparison):
+def compare_loads(texts):
     load, line = schema("load"), f"{TOP}/examples/line.toml"
-    for path in sorted(glob.glob(f"{TOP}/examples/**/*.load", recursive=True)):
-        comparison.compare(load, read(path), "run", path.replace(".load", ".toml"), None, "--limit", "1")
-    for document in [*variants(LOAD), *long_loads()]:
-        comparison.compare(load, text_of(document), "run", line, None, "--limit", "1")
+    for path in samples("**/*.load"):
+        texts.compare(load, read(path), "run", path.replace(".load", ".toml"), None, "--limit", "1")
+    for tables in [*variants(LOAD), *long_loads()]:
+        texts.compare(load, document(tables), "run", line, None, "--limit", "1")
 
 
-def main():
-    words = argparse.ArgumentParser()
-    words.add_argument("--program")
-    given = words.parse_args()
-    if given.program is None:
-        subprocess.run([f"{TOP}/swcheck", "--all", "--help"], stdout=subprocess.DEVNULL, check=True)
+def add_words(parser):
+    pass
+
+
+def compare(given):
     with tempfile.TemporaryDirectory() as folder:
-        comparison = Comparison(given.program or f"{TOP}/crates/swcheck/out/swcheck", folder)
-        compare_networks(comparison)
-        compare_loads(comparison)
-    for kind, count in sorted(comparison.counts.items()):
+        texts = Texts(given.program, folder)
+        compare_networks(texts)
+        compare_loads(texts)
+    for kind, count in sorted(texts.kinds.items()):
         print(f"{count:7} {kind}")
-    print(f"{sum(comparison.counts.values())} texts, {comparison.differences} differences")
-    return 1 if comparison.differences else 0
-
-
-if __name__ == "__main__":
-    sys.exit(main())
+    print(f"{sum(texts.kinds.values())} texts, {texts.differences} differences")
+    return texts.differences

@@ -1,32 +1,29 @@
-#!/usr/bin/env python3
-"""Compares what `swcheck margin` tells of the sample networks with what is found here, by tests/second_verdict.py and by files edited as by hand.
+"""margin beside tests/second_verdict.py, and beside files that are edited as by hand
 
-    tests/compare_margin [BINARY]                        by default the proved program
-    tests/compare_margin --random COUNT SEED [BINARY]    random networks with some links doubled, half with limits on unanswered commands, at
-                                                         least nine of ten of them free
-    tests/compare_margin --show                          what is expected, and no program
+The sample networks, and random ones with some links doubled, half with limits on unanswered commands, at least nine of ten of them free.
 
-Of a node: the dependencies with one more, from the channel into the node to the one out of it. Of a flow: the file with a `reply` by the arrival ports
-of its way, from the last to the first, and its end made a target; the second program decides it, and so does `swcheck decide`. Of a flow with a limit: the
-file with each greater number in its place, up to more than any target owes, and without; the program decides that with the greatest number and with one more.
-Of a link: the flows with a place from which they go on over it alone, and beside that the verdict on the network without the link.
-
-It prints each difference and how many networks were compared; its status is 1 where anything differs.
+Of a node: the dependencies with one more, from the channel into the node to the one out of it. Of a flow: the file with a `reply` by the arrival ports of its
+way, from the last to the first, and its end made a target; the second program decides it, and so does `swcheck decide`. Of a flow with a limit: the file with
+each greater number in its place, up to more than any target owes, and without; the program decides that with the greatest number and with one more. Of a link:
+the flows with a place from which they go on over it alone, and beside that the verdict on the network without the link. With --show it prints the rows that
+are expected instead.
 """
 import copy
-import glob
-import json
 import os
-import random
-import subprocess
 import sys
 import tempfile
 
 from random_network import add_limits, random_network
 from sample_network import Sample, tables
 
-TOP = os.path.dirname(os.path.dirname(os.path.realpath(__file__)))
+from .shared import TOP, add_random, called, document, numbers_of, samples, write
+
 LONGEST_PATH = 12
+
+
+def add_words(parser):
+    add_random(parser, 0)
+    parser.add_argument("--show", action="store_true", help="print the rows that are expected")
 
 
 def has_cycle(pairs):
@@ -39,20 +36,6 @@ def has_cycle(pairs):
             return True
         left = kept
     return False
-
-
-def toml(value):
-    """A value as TOML, with inline tables."""
-    if isinstance(value, dict):
-        return "{ " + ", ".join(f"{key} = {toml(it)}" for key, it in value.items()) + " }"
-    if isinstance(value, list):
-        return "[" + ", ".join(map(toml, value)) + "]"
-    return json.dumps(value)
-
-
-def document(found):
-    """The file of these tables."""
-    return "".join(f"{key} = {toml(value)}\n" for key, value in found.items())
 
 
 class Margin:
@@ -217,36 +200,23 @@ def astray(verdict):
     return {number for number, (flow, places) in flows if any(verdict.fault_at(flow, place) for place in places)}
 
 
-def called(binary, command, file):
-    found = subprocess.run([binary, command, file], capture_output=True, text=True)
-    return found.stdout, found.returncode
-
-
-def differing_edits(margin, binary, folder):
+def differing_edits(program, margin, folder):
     """Tells of edited files that the program decides otherwise, and returns how many."""
     count = 0
     for edited, is_free in margin.edits:
-        file = f"{folder}/edited.toml"
-        with open(file, "w", encoding="utf-8") as text:
-            text.write(document(edited))
-        told, status = called(binary, "decide", file)
+        told, status = called(program, "decide", write(f"{folder}/edited.toml", document(edited)))
         if (status, told.startswith("cyclic")) != ((0, False) if is_free else (1, True)):
             print(f"{'free' if is_free else 'cyclic'} is expected, and decide ends with {status} and {told[:200]!r} of\n{document(edited)}")
             count += 1
     return count
 
 
-def differs(binary, file, margin, folder):
+def differs(program, file, margin, folder):
     """Tells of a file of which the program says something else, or of whose edits."""
-    expected, found = (margin.expected(), 0), called(binary, "margin", file)
+    expected, found = (margin.expected(), 0), called(program, "margin", file)
     if found != expected:
         print(f"{file}: expected {expected}, found {found}")
-    return differing_edits(margin, binary, folder) > 0 or found != expected
-
-
-def samples():
-    names = ["networks/*.toml", "guide/*.toml", "*.toml"]
-    return sorted(file for name in names for file in glob.glob(f"{TOP}/examples/{name}"))
+    return differing_edits(program, margin, folder) > 0 or found != expected
 
 
 def doubled(numbers, network):
@@ -268,20 +238,23 @@ def beside(numbers, network, end):
     return "switch", switch, other
 
 
-def compare_random(count, seed, binary, folder):
-    """Compares the program on random networks, until so many are compared."""
-    numbers, compared, kinds = random.Random(seed), 0, {"free": 0, "stalls": 0, "answers": 0, "limits": 0, "edits": 0}
-    while compared < count:
-        file = f"{folder}/network.toml"
-        with open(file, "w", encoding="utf-8") as text:
-            network = doubled(numbers, random_network(numbers))
-            text.write((add_limits(numbers, network) if numbers.random() < 0.5 else network).text())
+def some_network(numbers):
+    network = doubled(numbers, random_network(numbers))
+    return (add_limits(numbers, network) if numbers.random() < 0.5 else network).text()
+
+
+def differing_random(given, folder):
+    """How many of so many random networks differ, no more than one: it stops there."""
+    numbers, compared, kinds = numbers_of(given), 0, {"free": 0, "stalls": 0, "answers": 0, "limits": 0, "edits": 0}
+    while compared < given.random:
+        text = some_network(numbers)
+        file = write(f"{folder}/network.toml", text)
         margin = Margin(tables(file))
-        if margin.verdict.status and 10 * (compared - kinds["free"]) >= count:
+        if margin.verdict.status and 10 * (compared - kinds["free"]) >= given.random:
             continue
         compared += 1
-        if differs(binary, file, margin, folder):
-            print(open(file, encoding="utf-8").read())
+        if differs(given.program, file, margin, folder):
+            print(text)
             return 1
         if margin.verdict.status == 0:
             kinds["free"] += 1
@@ -289,31 +262,22 @@ def compare_random(count, seed, binary, folder):
             kinds["answers"] += not all(is_free for _, _, is_free in margin.answered_flows)
             kinds["limits"] += any(most for _, most in margin.limits)
             kinds["edits"] += len(margin.edits)
-    print(f"{count} random networks, {kinds['free']} of them free, {kinds['stalls']} not if some node stops taking, {kinds['answers']} not if some flow is")
-    print(f"answered, {kinds['limits']} not with any number of unanswered commands of some limited flow; {kinds['edits']} edited files: none differs")
+    print(f"{given.random} random networks, {kinds['free']} of them free, {kinds['stalls']} not if some node stops taking, {kinds['answers']} not if some")
+    print(f"flow is answered, {kinds['limits']} not with any number of unanswered commands of some limited flow; {kinds['edits']} edited files")
     return 0
 
 
-def compare_samples(binary, folder):
+def show(files):
+    for file in files:
+        print(f"> swcheck margin {os.path.relpath(file, f'{TOP}/examples')}\n{Margin(tables(file)).expected()}status 0", flush=True)
+
+
+def compare(given):
     files = samples()
-    differing = sum(differs(binary, file, Margin(tables(file)), folder) for file in files)
-    print(f"{len(files)} files, {differing} differ")
-    return 1 if differing else 0
-
-
-def main():
-    words = sys.argv[1:]
-    if words == ["--show"]:
-        for file in samples():
-            print(f"> swcheck margin {os.path.relpath(file, f'{TOP}/examples')}\n{Margin(tables(file)).expected()}status 0", flush=True)
+    if given.show:
+        show(files)
         return 0
-    random_words, words = (words[1:3], words[3:]) if words[:1] == ["--random"] else ([], words)
-    binary = words[0] if words else f"{TOP}/crates/swcheck/out/swcheck"
     with tempfile.TemporaryDirectory() as folder:
-        if random_words:
-            return compare_random(int(random_words[0]), int(random_words[1]), binary, folder)
-        return compare_samples(binary, folder)
-
-
-if __name__ == "__main__":
-    sys.exit(main())
+        differing = sum(differs(given.program, file, Margin(tables(file)), folder) for file in files)
+        print(f"{len(files)} files, {differing} differ")
+        return differing + (differing_random(given, folder) if given.random else 0)
