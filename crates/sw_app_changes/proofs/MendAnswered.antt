@@ -1,4 +1,4 @@
--- What is found of a network, and what is answered by it.
+-- What is found of a network by its verdict.
 use Rattle.std.proofs.Common.{◌≡◌, ℕ, Bool, IfOk, string_bytes, subst}
 use Rattle.std.specs.Prelude.{Result, Ok, Err}
 use Rattle.std.specs.declared.alloc.AllocError.{AllocError}
@@ -13,14 +13,7 @@ use Rattle.sw_search.specs.declared.verdict.Verdict.{Verdict}
 use Rattle.sw_search.specs.declared.verdict.Verdict.TheVariants as verdict
 use Rattle.sw_app_changes.specs.declared.mending.Mending.{Mending}
 use Rattle.sw_app_changes.specs.declared.mending.Mending.TheVariants.{Misrouted, Free}
-use Rattle.sw_app_changes.specs.MendAnswers.{IsNetworkAnswer}
-use Rattle.sw_app_changes.specs.MendTexts.{mending_status, mending_text}
 use Rattle.sw_app_changes.specs.Mendings.{IsMending}
-
-pub answered : (pairs : Bool) (d : Declaration) (m : Mending) (r : Result Answer AllocError) → IsMending pairs d m
-    → IfOk r (λ a. Says (mending_text d m) (mending_status m) (string_bytes a.text) a.status) → IfOk r (λ a. IsNetworkAnswer pairs d (string_bytes a.text) a.status)
-answered pairs d m (Ok a) is h = (m, is, h)
-answered pairs d m (Err x) is h = h
 
 -- by the verdict: the flow that is not well routed, and that the network is free
 module _ (pairs : Bool) (d : Declaration) (v : Verdict) (is : IsVerdict d v) where

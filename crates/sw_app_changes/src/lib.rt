@@ -19,7 +19,6 @@ mod margin_answer;
 mod margin_engine;
 pub mod margin_laws;
 mod margin_texts;
-mod mend_answer;
 mod mend_engine;
 pub mod mend_laws;
 mod mend_texts;

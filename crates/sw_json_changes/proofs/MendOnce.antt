@@ -7,7 +7,10 @@ use Rattle.sw_app_changes.specs.declared.mending.Mending.{Mending}
 use Rattle.sw_app_changes.specs.declared.mending.Mending.TheVariants.{Misrouted, Free, Cyclic}
 use Rattle.sw_app_changes.specs.MendLaws as text_laws
 use Rattle.sw_app_changes.specs.MendAnswers as text
-use Rattle.sw_app_changes.specs.MendTexts.{change_words, mending_text}
+use Rattle.sw_app_changes.specs.MendTexts.{change_words, mending_status, mending_text}
+use Rattle.sw_app_changes.specs.Mendings.{IsMending}
+use Rattle.sw_engine.specs.Engines.{AnswersToRead}
+use Rattle.sw_engine.specs.LineAnswers.{FaultInLine, FindingInLines}
 use Rattle.sw_text.specs.Ends.{IfLimited}
 use Rattle.sw_text.specs.FaultTexts.{fault_text}
 use Rattle.sw_config.specs.Entries.{Declaration}
@@ -43,7 +46,7 @@ module _ (one_mending : text_laws.MendingsAreDetermined) where
 -- ---- the status
 
 of_read : (path bytes : List ℕ) (pairs : Bool) (r : Result Declaration TextFault) (value : Data) (status : ℕ) → OfNetwork path bytes (IsMendFound pairs) r value status
-    → (said : List ℕ) × text.IsReadAnswer pairs r said status
+    → (said : List ℕ) × AnswersToRead (FindingInLines (IsMending pairs) mending_text mending_status) FaultInLine r said status
 of_read path bytes pairs (Ok d) value status (m, h, is) = (mending_text d m, (m, h, (refl, is.1)))
 of_read path bytes pairs (Err fault) value status (told, at, is) = (line (fault_text fault ∷ []), (refl, is.1))
 

@@ -1,0 +1,4 @@
+pub mod Engines
+pub mod Files
+pub mod LineAnswers
+pub mod Tellings

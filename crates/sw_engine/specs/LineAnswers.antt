@@ -1,0 +1,21 @@
+-- What a command that reads a network file answers in lines (this project's choice).
+use Rattle.std.specs.Prelude.{ℕ, List, [], ◌∷◌}
+use Rattle.sw_config.specs.Entries.{Declaration}
+use Rattle.sw_file.specs.Network.{network_text}
+use Rattle.sw_text.specs.Ends.{Answers, Says}
+use Rattle.sw_text.specs.FaultTexts.{fault_text}
+use Rattle.sw_text.specs.Lines.{line}
+use Rattle.sw_text.specs.declared.fault.TextFault.{TextFault}
+use Rattle.sw_engine.specs.Engines.{AnswersByFinding, AnswersToRead}
+
+-- the lines of what is found of a network, with its status
+abbrev pub FindingInLines : {X : Type 0} → (Declaration → X → Type 0) → (Declaration → X → List ℕ) → (X → ℕ) → Declaration → Answers
+FindingInLines Finds lines status = AnswersByFinding Finds (λ d found. Says (lines d found) (status found))
+
+-- the line of a fault
+abbrev pub FaultInLine : TextFault → Answers
+FaultInLine fault = Says (line (fault_text fault ∷ [])) 3
+
+-- of the bytes of a network file: its first fault, or what is found of its network
+abbrev pub NetworkFileInLines : {X : Type 0} → (Declaration → X → Type 0) → (Declaration → X → List ℕ) → (X → ℕ) → List ℕ → Answers
+NetworkFileInLines Finds lines status bytes = AnswersToRead (FindingInLines Finds lines status) FaultInLine (network_text bytes)

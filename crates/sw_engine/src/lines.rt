@@ -1,0 +1,71 @@
+//! Answers as lines of text.
+ghost use Rattle.std.specs.Prelude.{◌≡◌, ◌∷◌, [], ℕ, List, IfOk, codes, string_bytes};
+ghost use Rattle.sw_config.specs.Entries.{Declaration};
+ghost use Rattle.sw_text.specs.Ends.{Says};
+ghost use Rattle.sw_text.specs.FaultTexts.{fault_text};
+ghost use Rattle.sw_text.specs.Lines.{line};
+
+use crate::forms::{Form, Tells};
+use crate::outcome::Outcome;
+use std::alloc::{AllocError, Global};
+use std::io::Write;
+use sw_config::Network;
+use sw_text::{Answer, Ended, TextFault, tell_memory};
+
+/// What was found of a network, where it can be told as lines.
+pub trait AsLines: Outcome {
+    ghost has_lines: { Declaration → Self → Type 0 };
+
+    ghost lines_of: { Declaration → Self → List ℕ };
+
+    /// The lines, each with its end.
+    ///
+    /// # Errors
+    ///
+    /// There is no memory for them.
+    fn lines(&self, alloc: Global, network: &Network) -> Result<String, AllocError>
+        requires { has_lines network.now self.now }
+        ensures { IfOk result (λ text. string_bytes text ≡ lines_of network.now self.now) };
+}
+
+/// The form of answers that are lines of text.
+#[derive(Clone, Copy)]
+pub struct Lines;
+
+impl Form for Lines {
+    ghost memory = { line (codes "fault memory" ∷ []) };
+
+    ghost long = { λ _. Says (line (codes "fault A1 TooLong" ∷ [])) 3 };
+
+    ghost faulty = { λ _ _ fault. Says (line (fault_text fault ∷ [])) 3 };
+
+    fn tell_memory<W: Write>(&self, writer: &mut W) -> Ended {
+        tell_memory(writer)
+    }
+
+    fn long(&self, alloc: Global) -> Result<Answer, AllocError> {
+        Answer::of_long_text(alloc)
+    }
+
+    fn faulty(&self, alloc: Global, _text: &[u8], fault: &TextFault) -> Result<Answer, AllocError> {
+        Answer::of_fault(alloc, fault)
+    }
+}
+
+impl<X: AsLines> Tells<X> for Lines {
+    ghost can_tell = { λ _ d found. X.has_lines d found };
+
+    ghost tells = { λ _ _ d found. Says (X.lines_of d found) (X.Outcome.status_of found) };
+
+    fn found(
+        &self,
+        alloc: Global,
+        _text: &[u8],
+        network: &Network,
+        found: &X,
+    ) -> Result<Answer, AllocError> {
+        let text = found.lines(alloc, network)?;
+        let status = found.status();
+        Ok(Answer { text, status })
+    }
+}

@@ -1,0 +1,78 @@
+//! Network files, as far as they could be read.
+ghost use Rattle.std.specs.Prelude.{◌≡◌, option_map};
+ghost use Rattle.sw_text.specs.Inputs.{given};
+ghost use Rattle.sw_engine.specs.Files.{IsFileOf, IsFileRead, network_of};
+
+use std::alloc::Global;
+use std::io::Read;
+use sw_file::{FileFault, Network, read_network};
+use sw_text::{InputError, InputText, TextFault, read_one};
+
+/// A network file, as far as it could be read.
+#[derive(Drop)]
+pub enum NetworkFile {
+    /// A text that declares this network.
+    Network {
+        /// All bytes of the file.
+        text: Vec<u8>,
+        /// What they declare.
+        network: Network,
+    },
+    /// A text that has a fault.
+    Faulty {
+        /// All bytes of the file.
+        text: Vec<u8>,
+        /// The first fault.
+        fault: TextFault,
+    },
+    /// A text that is too long.
+    TooLong,
+    /// A read failed.
+    Unread,
+    /// There is no memory for the text or for the network.
+    NoMemory,
+}
+
+impl NetworkFile {
+    /// The network, if the file declares one.
+    pub fn network(&self) -> Option<&Network>
+        ensures { option_map (λ n. n.now) result ≡ network_of self.now }
+    {
+        match self {
+            NetworkFile::Network { network, .. } => Some(network),
+            _ => None,
+        }
+    }
+
+    /// Lets the network go, which is more than dropping it.
+    pub fn discard(self) {
+        if let NetworkFile::Network { network, .. } = self {
+            network.discard();
+        }
+    }
+}
+
+// What a text is as a network file.
+fn file_of(alloc: Global, text: InputText) -> NetworkFile
+    ensures { IsFileOf (given text) result }
+{
+    let InputText::Whole(text) = text else {
+        return NetworkFile::TooLong;
+    };
+    match read_network(alloc, &text) {
+        Ok(network) => NetworkFile::Network { text, network },
+        Err(FileFault::Text(fault)) => NetworkFile::Faulty { text, fault },
+        Err(FileFault::Memory) => NetworkFile::NoMemory,
+    }
+}
+
+/// Reads a network file whole.
+pub fn read_network_file<R: Read>(alloc: Global, reader: &mut R) -> NetworkFile
+    ensures { IsFileRead (R.remaining reader.old) (R.remaining reader.new) result }
+{
+    match read_one(alloc, reader) {
+        Ok(text) => file_of(alloc, text),
+        Err(InputError::Failed) => NetworkFile::Unread,
+        Err(InputError::Memory) => NetworkFile::NoMemory,
+    }
+}

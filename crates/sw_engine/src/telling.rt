@@ -1,0 +1,65 @@
+//! A network file, and what was found of its network, are told.
+ghost use Rattle.std.specs.Prelude.{◌≡◌, IfOk, is_some, string_bytes};
+ghost use Rattle.sw_engine.specs.Files.{network_of};
+ghost use Rattle.sw_engine.specs.Tellings.{AnswersToFile, HoldsOfFound, IsAnswerTold, IsFileTold};
+
+use crate::forms::{Form, Tells};
+use crate::network_file::NetworkFile;
+use std::alloc::{AllocError, Global};
+use std::io::Write;
+use sw_text::{Answer, Ended, tell};
+
+// What answers a file that was read. There is none where there was no memory.
+fn answer_to<X: Drop, F: Tells<X>>(
+    form: &F,
+    alloc: Global,
+    file: &NetworkFile,
+    found: Option<Result<X, AllocError>>,
+) -> Result<Answer, AllocError>
+    requires { HoldsOfFound (F.can_tell form.now) (network_of file.now) found }
+    ensures { IfOk result (λ answer. AnswersToFile (F.tells form.now) (F.Form.faulty form.now) (F.Form.long form.now) file.now found (string_bytes answer.text) answer.status) }
+{
+    match (file, found) {
+        (NetworkFile::Network { text, network }, Some(found)) => {
+            let found = found?;
+            form.found(alloc, text, network, &found)
+        }
+        (NetworkFile::Faulty { text, fault }, _) => form.faulty(alloc, text, fault),
+        (NetworkFile::TooLong, _) => form.long(alloc),
+        _ => Err(AllocError),
+    }
+}
+
+// Writes an answer, or that memory was wanted.
+fn tell_answer<F: Form, W: Write>(
+    form: &F,
+    writer: &mut W,
+    answer: Result<Answer, AllocError>,
+) -> Ended
+    ensures { IsAnswerTold F.memory answer (W.contents writer.old) (W.contents writer.new) result }
+{
+    match answer {
+        Ok(answer) => tell(writer, answer.text.as_str(), answer.status),
+        Err(_) => form.tell_memory(writer),
+    }
+}
+
+/// Tells of a network file what was found of its network, if it declares one; else its first fault, or that it is too long; or that memory was
+/// wanted. Of a read that failed nothing is told.
+pub fn tell_found<X: Drop, F: Tells<X>, W: Write>(
+    form: &F,
+    alloc: Global,
+    file: &NetworkFile,
+    found: Option<Result<X, AllocError>>,
+    writer: &mut W,
+) -> Ended
+    requires there { is_some found ≡ is_some (network_of file.now) }
+    requires fit { HoldsOfFound (F.can_tell form.now) (network_of file.now) found }
+    ensures { IsFileTold F.Form.memory (AnswersToFile (F.tells form.now) (F.Form.faulty form.now) (F.Form.long form.now) file.now found) file.now (W.contents writer.old) (W.contents writer.new) result }
+{
+    if let NetworkFile::Unread = file {
+        return Ended::ReadFailed;
+    }
+    let answer = answer_to(form, alloc, file, found);
+    tell_answer(form, writer, answer)
+}
