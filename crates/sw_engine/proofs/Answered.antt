@@ -1,5 +1,5 @@
 -- What an engine has done that told what was found of a network file.
-use Rattle.std.proofs.Common.{◌≡◌, ◌⊎◌, ℕ, List, Global, Vec, inl, inr, refl, subst, sym}
+use Rattle.std.proofs.Common.{◌≡◌, ◌⊎◌, ℕ, List, inl, inr, refl, subst, sym}
 use Rattle.std.specs.Prelude.{Err, IfOk, None, Ok, Option, Result, Some, string_bytes}
 use Rattle.std.specs.declared.alloc.AllocError.{AllocError}
 use Rattle.sw_config.specs.Entries.{Declaration}
@@ -8,9 +8,9 @@ use Rattle.sw_text.specs.declared.answer.Answer.{Answer}
 use Rattle.sw_text.specs.declared.fault.TextFault.{TextFault}
 use Rattle.sw_text.specs.declared.write_answer.Ended.{Ended}
 use Rattle.sw_text.specs.declared.write_answer.Ended.TheVariants as ended
-use Rattle.sw_text.specs.Ends.{Answers, GivesText, IsTold, Says}
+use Rattle.sw_text.specs.Ends.{Answers, IsTold, Says}
 use Rattle.sw_engine.specs.Engines.{AnswersByFinding, AnswersByOne, AnswersToNetworkFile, AnswersToOne, AnswersToRead, EndsByOne}
-use Rattle.sw_engine.specs.Files.{IsFileOf, IsFileRead, network_of}
+use Rattle.sw_engine.specs.Files.{IsFileRead, network_of}
 use Rattle.sw_engine.specs.Tellings.{AnswersToFile, Findings, HoldsOfFound, IsAnswerTold, IsFileTold, TellsOr}
 use Rattle.sw_engine.specs.declared.network_file.NetworkFile.{NetworkFile}
 use Rattle.sw_engine.specs.declared.network_file.NetworkFile.TheVariants.{Network, Faulty, TooLong, Unread, NoMemory}

@@ -8,7 +8,6 @@ use Rattle.sw_text.specs.declared.answer.Answer.{Answer}
 use Rattle.sw_text.specs.declared.fault.TextFault.{TextFault}
 use Rattle.sw_text.specs.declared.write_answer.Ended.{Ended}
 use Rattle.sw_text.specs.declared.write_answer.Ended.TheVariants.{ReadFailed}
-use Rattle.sw_engine.specs.Files.{network_of}
 use Rattle.sw_engine.specs.declared.network_file.NetworkFile.{NetworkFile}
 use Rattle.sw_engine.specs.declared.network_file.NetworkFile.TheVariants.{Network, Faulty, TooLong, Unread, NoMemory}
 
