@@ -5,7 +5,6 @@ mod ToldAnswer
 mod MendAnswered
 pub mod OneMending
 mod OneMendAnswer
-mod MarginAnswered
 mod LossLines
 mod LimitLines
 mod MendLines

@@ -1,9 +1,5 @@
 -- What is found of a network by its verdict.
-use Rattle.std.proofs.Common.{◌≡◌, ℕ, Bool, IfOk, string_bytes, subst}
-use Rattle.std.specs.Prelude.{Result, Ok, Err}
-use Rattle.std.specs.declared.alloc.AllocError.{AllocError}
-use Rattle.sw_text.specs.declared.answer.Answer.{Answer}
-use Rattle.sw_text.specs.Ends.{Says}
+use Rattle.std.proofs.Common.{◌≡◌, ℕ, Bool, subst}
 use Rattle.sw_cert.specs.Text.{Contents}
 use Rattle.sw_config.specs.Entries.{Declaration}
 use Rattle.sw_flow.specs.declared.fault.RouteFault.{RouteFault}
@@ -11,7 +7,6 @@ use Rattle.sw_flow.specs.declared.place.Place.{Place}
 use Rattle.sw_search.specs.Verdicts.{IsVerdict}
 use Rattle.sw_search.specs.declared.verdict.Verdict.{Verdict}
 use Rattle.sw_search.specs.declared.verdict.Verdict.TheVariants as verdict
-use Rattle.sw_app_changes.specs.declared.mending.Mending.{Mending}
 use Rattle.sw_app_changes.specs.declared.mending.Mending.TheVariants.{Misrouted, Free}
 use Rattle.sw_app_changes.specs.Mendings.{IsMending}
 

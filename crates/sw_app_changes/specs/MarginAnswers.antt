@@ -1,9 +1,7 @@
 -- What `margin` answers (this project's choice).
-use Rattle.std.specs.Prelude.{ℕ, List, [], ◌∷◌, Result, Ok, Err}
-use Rattle.sw_text.specs.Ends.{Answers, Says}
-use Rattle.sw_text.specs.FaultTexts.{fault_text}
+use Rattle.std.specs.Prelude.{ℕ, List, [], ◌∷◌}
 use Rattle.sw_config.specs.Entries.{Declaration}
-use Rattle.sw_file.specs.Network.{network_text}
+use Rattle.sw_engine.specs.LineAnswers.{NetworkFileInLines}
 use Rattle.sw_margin.specs.Bends.{AreAnswers, AreStalls}
 use Rattle.sw_margin.specs.FlowLimits.{AreFlowLimits}
 use Rattle.sw_margin.specs.Losses.{AreLosses}
@@ -12,31 +10,39 @@ use Rattle.sw_output.specs.Lines.{line}
 use Rattle.sw_output.specs.VerdictTexts.{misrouted_words}
 use Rattle.sw_search.specs.Verdicts.{IsVerdict}
 use Rattle.sw_search.specs.declared.verdict.Verdict.{Verdict}
-use Rattle.sw_search.specs.declared.verdict.Verdict.TheVariants.{Misrouted, Cyclic, Free}
-use Rattle.sw_text.specs.declared.fault.TextFault.{TextFault}
+use Rattle.sw_search.specs.declared.verdict.Verdict.TheVariants as verdict
+use Rattle.sw_text.specs.Ends.{Answers}
+use Rattle.sw_app_changes.specs.declared.margin_engine.MarginFinding.{MarginFinding}
+use Rattle.sw_app_changes.specs.declared.margin_engine.MarginFinding.TheVariants.{NotFree, Free}
+use Rattle.sw_app_changes.specs.Mendings.{SaysFree}
 use Rattle.sw_app_changes.specs.MarginTexts.{margin_text, not_free_line}
 
--- what the free network stands
-abbrev pub IsBent : Declaration → Answers
-IsBent d text status =
-    (told : Margins) × AreStalls d told.stalls.items × AreAnswers d told.answers.items × AreFlowLimits d told.limits.items × AreLosses d told.losses.items
-    × Says (margin_text d told) 0 text status
+-- a verdict that some flow is not well routed, or that channels can wait for one another
+abbrev pub IsNotFree : Verdict → Type 0
+IsNotFree (verdict.Misrouted flow place fault) = Unit {0}
+IsNotFree (verdict.Cyclic cycle) = Unit {0}
+IsNotFree (verdict.Free contents) = ⊥
 
--- the flow that is not well routed; else that the network is not free, or what it stands
-abbrev pub IsByVerdict : Declaration → Verdict → Answers
-IsByVerdict d (Misrouted flow place fault) text status = Says (line (misrouted_words d flow place fault ∷ [])) 0 text status
-IsByVerdict d (Cyclic cycle) text status = Says not_free_line 0 text status
-IsByVerdict d (Free contents) text status = IsBent d text status
+-- how far the premises bend
+abbrev pub AreMargins : Declaration → Margins → Type 0
+AreMargins d told = AreStalls d told.stalls.items × AreAnswers d told.answers.items × AreFlowLimits d told.limits.items × AreLosses d told.losses.items
 
--- of a network
-abbrev pub IsNetworkAnswer : Declaration → Answers
-IsNetworkAnswer d text status = (v : Verdict) × IsVerdict d v × IsByVerdict d v text status
+-- what is found of a network: the verdict, where it is not free, or how far the premises bend
+abbrev pub IsMarginFinding : Declaration → MarginFinding → Type 0
+IsMarginFinding d (NotFree v) = IsVerdict d v × IsNotFree v
+IsMarginFinding d (Free told) = SaysFree d × AreMargins d told
 
--- of a text that is a network, or of its first fault
-abbrev pub IsReadAnswer : Result Declaration TextFault → Answers
-IsReadAnswer (Ok d) text status = IsNetworkAnswer d text status
-IsReadAnswer (Err fault) text status = Says (line (fault_text fault ∷ [])) 3 text status
+-- the flow that is not well routed; else that the network is not free
+abbrev pub not_free_lines : Declaration → Verdict → List ℕ
+not_free_lines d (verdict.Misrouted flow place fault) = line (misrouted_words d flow place fault ∷ [])
+not_free_lines d (verdict.Cyclic cycle) = not_free_line
+not_free_lines d (verdict.Free contents) = not_free_line
+
+-- what is told of that
+abbrev pub margin_lines : Declaration → MarginFinding → List ℕ
+margin_lines d (NotFree v) = not_free_lines d v
+margin_lines d (Free told) = margin_text d told
 
 -- of the bytes of a file
 abbrev pub IsMarginAnswer : List ℕ → Answers
-IsMarginAnswer bytes = IsReadAnswer (network_text bytes)
+IsMarginAnswer = NetworkFileInLines IsMarginFinding margin_lines (λ _. 0)

@@ -6,7 +6,9 @@ use Rattle.std.proofs.lemmas.List.Elements.{All-cons, All-nil}
 use Rattle.std.proofs.lemmas.Option.{slice_get_within}
 use Rattle.serde_json.specs.Data.{Data}
 use Rattle.sw_app_changes.specs.ExplainAnswers as text
-use Rattle.sw_app_changes.specs.ExplainTexts.{explain_status}
+use Rattle.sw_app_changes.specs.ExplainTexts.{explain_status, explain_text}
+use Rattle.sw_engine.specs.Engines.{AnswersToRead}
+use Rattle.sw_engine.specs.LineAnswers.{FaultInLine, FindingInLines}
 use Rattle.sw_text.specs.Ends.{IfLimited}
 use Rattle.sw_config.specs.Entries.{Declaration}
 use Rattle.sw_cycle.specs.Causes.{GoesOn, IsChosenCause}
@@ -65,8 +67,9 @@ module _ (of_verdict : ExplanationsAreOfTheVerdict) (where_cycles : TanglesAreWh
   -- a result and a text answer
 
   read_as : (path bytes : List ℕ) (all : Bool) (r : Result Declaration TextFault) (value : Data) (said : List ℕ) (status number : ℕ) → OfNetwork path bytes IsExplained r value status
-      → text.IsReadAnswer all r said number → status ≡ number
-  read_as path bytes all (Ok d) value said status number (e, h, is) (f, k, tells) = is.1 ∙ (status_once d e f h k ∙ sym tells.1)
+      → AnswersToRead (FindingInLines (text.IsExplainFinding all) (λ d found. explain_text d found.all found.explanation) (λ found. explain_status found.explanation)) FaultInLine r said number
+      → status ≡ number
+  read_as path bytes all (Ok d) value said status number (e, h, is) (f, k, tells) = is.1 ∙ (status_once d e f.explanation h k.1 ∙ sym tells.1)
   read_as path bytes all (Err fault) value said status number (told, at, is) tells = is.1 ∙ sym tells.1
 
   file_as : (path : List ℕ) (all : Bool) (given : Option (List ℕ)) (value : Data) (said : List ℕ) (status number : ℕ) → OfNetworkFile path IsExplained given value status

@@ -4,7 +4,10 @@ use Rattle.std.specs.Prelude.{Err, None, Ok, Option, Result, Some}
 use Rattle.serde_json.specs.Data.{Data, array, object, string, member, no_members}
 use Rattle.serde_json.specs.View.{items_of}
 use Rattle.sw_app_changes.specs.MarginLaws as text_laws
+use Rattle.sw_app_changes.specs.declared.margin_engine.MarginFinding.TheVariants as finding
 use Rattle.sw_app_changes.specs.MarginAnswers as text
+use Rattle.sw_engine.specs.Engines.{AnswersToRead}
+use Rattle.sw_engine.specs.LineAnswers.{FaultInLine, FindingInLines}
 use Rattle.sw_app_changes.specs.MarginTexts.{margin_text, not_free_line}
 use Rattle.sw_text.specs.Ends.{IfLimited}
 use Rattle.sw_text.specs.FaultTexts.{fault_text}
@@ -77,17 +80,16 @@ module _ (one_stalls : StallsAreDetermined) (one_answers : AnswersAreDetermined)
 
 -- ---- the status
 
-by_verdict : (d : Declaration) (v : Verdict) (value : Data) (status : ℕ) → IsByVerdict d v value status → (said : List ℕ) × text.IsByVerdict d v said status
-by_verdict d (Misrouted i p fault) value status is = (line (misrouted_words d i p fault ∷ []), (refl, is.1))
-by_verdict d (Cyclic cycle) value status is = (not_free_line, (refl, is.1))
-by_verdict d (Free contents) value status (told, stalls, answers, limits, losses, is) = (margin_text d told, (told, stalls, answers, limits, losses, (refl, is.1)))
-
-of_network : (d : Declaration) (value : Data) (status : ℕ) → IsMarginFound d value status → (said : List ℕ) × text.IsNetworkAnswer d said status
-of_network d value status (v, h, is) = let told = by_verdict d v value status is in (told.0, (v, h, told.1))
+by_verdict : (d : Declaration) (v : Verdict) (value : Data) (status : ℕ) → IsVerdict d v → IsByVerdict d v value status
+    → (said : List ℕ) × FindingInLines text.IsMarginFinding text.margin_lines (λ _. 0) d said status
+by_verdict d (Misrouted i p fault) value status h is = (line (misrouted_words d i p fault ∷ []), (finding.NotFree (Misrouted i p fault), (h, tt), (refl, is.1)))
+by_verdict d (Cyclic cycle) value status h is = (not_free_line, (finding.NotFree (Cyclic cycle), (h, tt), (refl, is.1)))
+by_verdict d (Free contents) value status h (told, stalls, answers, limits, losses, is) =
+    (margin_text d told, (finding.Free told, ((contents, h), (stalls, answers, limits, losses)), (refl, is.1)))
 
 of_read : (path bytes : List ℕ) (r : Result Declaration TextFault) (value : Data) (status : ℕ) → OfNetwork path bytes IsMarginFound r value status
-    → (said : List ℕ) × text.IsReadAnswer r said status
-of_read path bytes (Ok d) value status is = of_network d value status is
+    → (said : List ℕ) × AnswersToRead (FindingInLines text.IsMarginFinding text.margin_lines (λ _. 0)) FaultInLine r said status
+of_read path bytes (Ok d) value status (v, h, is) = by_verdict d v value status h is
 of_read path bytes (Err fault) value status (told, at, is) = (line (fault_text fault ∷ []), (refl, is.1))
 
 of_file : text_laws.MarginHasOneAnswer → (path : List ℕ) (given : Option (List ℕ)) (value : Data) (said : List ℕ) (status number : ℕ)

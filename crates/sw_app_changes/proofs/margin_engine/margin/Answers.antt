@@ -1,12 +1,19 @@
-use Rattle.std.proofs.Common.{ap, Err}
-use Rattle.sw_text.proofs.Endings.{answered, told_unread}
-use Rattle.sw_app_changes.specs.MarginAnswers.{IsMarginAnswer}
+use Rattle.std.proofs.Common.{ap, sym, ◌∙◌}
+use Rattle.std.specs.Prelude.{option_map}
+use Rattle.sw_engine.proofs.Answered.{holds_of_network, holds_of_none}
+use Rattle.sw_engine.proofs.LineEnds.{ends_in_lines}
+use Rattle.sw_engine.specs.Files.{network_of}
+use Rattle.sw_app_changes.specs.MarginAnswers.{IsMarginFinding, margin_lines}
+use Rattle.sw_app_changes.proofs.margin_engine.margin.Goals.{in-Some, in-None}
 use Rattle.sw_app_changes.proofs.margin_engine.margin.Goals as goal
-
-pub returns-in-Err : goal.returns-in-Err
-returns-in-Err g c = told_unread IsMarginAnswer _ _ _ _ _ _ (λ long. c.in-Err.ensures.long (ap Err long)) c.tell_unread.ensures
 
 pub returns : goal.returns
 returns g c =
-    answered IsMarginAnswer _ _ _ _ _ c.deref.result.now c.margin_answer.result (rw c.deref.ensures.value c.in-Ok.ensures.given) c.in-Ok.ensures.end
-    (rw c.deref.ensures.value c.in-Ok.ensures.within) c.margin_answer.ensures c.tell_answer.ensures
+    let file = c.read_network_file-file.result in
+    ends_in_lines IsMarginFinding margin_lines (λ _. 0) _ _ _ _ file c.match-network.found _ c.read_network_file-file.ensures
+    (elim c.match-network.branch [
+      | in-Some w ↦ holds_of_network IsMarginFinding _ (network_of file) w.find.result c.match-network.found
+          (sym c.network.ensures ∙ ap (option_map (λ n. n.now)) w.in-Some.is) w.found-is w.find.ensures
+      | in-None w ↦ holds_of_none IsMarginFinding (network_of file) c.match-network.found (sym c.network.ensures ∙ ap (option_map (λ n. n.now)) w.in-None.is)
+    ])
+    c.tell_found-ended.ensures
