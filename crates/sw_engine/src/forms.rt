@@ -17,7 +17,7 @@ pub trait Form {
 
     ghost faulty: { Self → List ℕ → TextFault → Answers };
 
-    /// Tells that memory was wanted, which takes none.
+    /// Tells that there was not enough memory. This takes none.
     fn tell_memory<W: Write>(&self, writer: &mut W) -> Ended
         ensures { IsTold (W.contents writer.old) (W.contents writer.new) memory 5 result };
 

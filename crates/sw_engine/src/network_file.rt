@@ -27,9 +27,9 @@ pub enum NetworkFile {
     },
     /// A text that is too long.
     TooLong,
-    /// A read failed.
+    /// A read failed. No contract of std's readers says when one does, so this is tested.
     Unread,
-    /// There is no memory for the text or for the network.
+    /// There is no memory for the text or for the network. This tells nothing of the text.
     NoMemory,
 }
 
@@ -44,7 +44,7 @@ impl NetworkFile {
         }
     }
 
-    /// Lets the network go, which is more than dropping it.
+    /// Lets the file go, with its network as [`Network::discard`] does.
     pub fn discard(self) {
         if let NetworkFile::Network { network, .. } = self {
             network.discard();

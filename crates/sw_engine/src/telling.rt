@@ -30,7 +30,7 @@ fn answer_to<X: Drop, F: Tells<X>>(
     }
 }
 
-// Writes an answer, or that memory was wanted.
+// Writes an answer, or that there was not enough memory.
 fn tell_answer<F: Form, W: Write>(
     form: &F,
     writer: &mut W,
@@ -44,8 +44,8 @@ fn tell_answer<F: Form, W: Write>(
     }
 }
 
-/// Tells of a network file what was found of its network, if it declares one; else its first fault, or that it is too long; or that memory was
-/// wanted. Of a read that failed nothing is told.
+/// Tells of a network file what was found of its network, if it declares one; else its first fault, or that it is too long. Where there was not
+/// enough memory it tells that; of a read that failed it tells nothing.
 pub fn tell_found<X: Drop, F: Tells<X>, W: Write>(
     form: &F,
     alloc: Global,
