@@ -1,7 +1,7 @@
 -- What `witness` answers (this project's choice).
 use Rattle.std.specs.Prelude.{◌≡◌, ◌⊎◌, ℕ, List, [], ◌∷◌, codes, Result, Ok, Err}
 use Rattle.std.specs.Fmt.{decimal}
-use Rattle.sw_app_changes.specs.ExplainTexts.{names_text}
+use Rattle.sw_explain.specs.ExplainTexts.{names_text}
 use Rattle.sw_text.specs.Ends.{Answers, Says}
 use Rattle.sw_text.specs.FaultTexts.{fault_text}
 use Rattle.sw_config.specs.Entries.{Declaration}

@@ -7,8 +7,8 @@ ghost use Rattle.sw_app_run.specs.WitnessAnswers.{IsNetworkAnswer, IsOfKind, IsO
 
 use crate::witness_texts::{none_found, with_note};
 use std::alloc::{AllocError, Global};
-use sw_app_changes::{misrouted_answer, names_text};
 use sw_config::Network;
+use sw_explain::{misrouted_answer, names_text};
 use sw_file::read_network;
 use sw_search::{Explanation, Tangle, VerdictWorkers, explain};
 use sw_text::statuses::{BAD, GOOD};

@@ -4,8 +4,8 @@ ghost use Rattle.sw_app_run.specs.WitnessAnswers.{none_found};
 ghost use Rattle.sw_witness.specs.Witnesses.{LocksUp};
 
 use std::alloc::{AllocError, Global};
-use sw_app_changes::names_text;
 use sw_config::Network;
+use sw_explain::names_text;
 use sw_witness::locks_up;
 
 /// That no lock-up was found by so many tries.

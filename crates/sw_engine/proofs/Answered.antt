@@ -9,7 +9,7 @@ use Rattle.sw_text.specs.declared.fault.TextFault.{TextFault}
 use Rattle.sw_text.specs.declared.write_answer.Ended.{Ended}
 use Rattle.sw_text.specs.declared.write_answer.Ended.TheVariants as ended
 use Rattle.sw_text.specs.Ends.{Answers, IsTold, Says}
-use Rattle.sw_engine.specs.Engines.{AnswersByFinding, AnswersByOne, AnswersToNetworkFile, AnswersToOne, AnswersToRead, EndsByOne}
+use Rattle.sw_engine.specs.Engines.{AnswersByFinding, AnswersByOne, AnswersInForm, AnswersToOne, AnswersToRead, EndsByOne}
 use Rattle.sw_engine.specs.Files.{IsFileRead, network_of}
 use Rattle.sw_engine.specs.Tellings.{AnswersToFile, Findings, HoldsOfFound, IsAnswerTold, IsFileTold, TellsOr}
 use Rattle.sw_engine.specs.declared.network_file.NetworkFile.{NetworkFile}
@@ -36,8 +36,8 @@ told_of_file memory P NoMemory answer old new end read met is = told_or memory P
 
 module _ {X : Type 0} (Finds : Declaration → X → Type 0) (Tells : List ℕ → Declaration → X → Answers) (Faults : List ℕ → TextFault → Answers) (Long : Answers) where
   -- the answers to a network file
-  abbrev pub to_file : AnswersToOne
-  to_file = AnswersToNetworkFile (λ bytes. AnswersByFinding Finds (Tells bytes)) Faults Long
+  abbrev to_file : AnswersToOne
+  to_file = AnswersInForm Finds Tells Faults Long
 
   -- the answer to bytes, by what they are
   to_bytes : (bytes : List ℕ) (given : Option (List ℕ)) (read : Result Declaration TextFault) (text : List ℕ) (status : ℕ) → given ≡ Some bytes

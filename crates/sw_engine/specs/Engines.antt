@@ -27,6 +27,10 @@ abbrev pub AnswersToNetworkFile : (List ℕ → Declaration → Answers) → (Li
 AnswersToNetworkFile Tells Faulty Long None text status = Long text status
 AnswersToNetworkFile Tells Faulty Long (Some bytes) text status = AnswersToRead (Tells bytes) (Faulty bytes) (network_text bytes) text status
 
+-- Of the text of a network file, by what a command finds of its network, and in which form that is told.
+abbrev pub AnswersInForm : {X : Type 0} → (Declaration → X → Type 0) → (List ℕ → Declaration → X → Answers) → (List ℕ → TextFault → Answers) → Answers → AnswersToOne
+AnswersInForm Finds Tells Faulty Long = AnswersToNetworkFile (λ bytes. AnswersByFinding Finds (Tells bytes)) Faulty Long
+
 -- the answers to the text that a reader gave
 abbrev pub AnswersByOne : AnswersToOne → Option (List ℕ) → Option (List ℕ) → Answers
 AnswersByOne P before after text status = (given : Option (List ℕ)) × GivesText before after given × P given text status

@@ -1,14 +1,16 @@
-//! What the engines of all commands have in common: a network file is read, what a command finds of its network is told in some form.
+//! How a command with one network file reads it, tells what it found of it as lines or in another form, and hands up what it read and found.
 #![tactic(auto)]
 
-mod forms;
+mod command_end;
+mod finding;
+mod form;
 mod lines;
 mod network_file;
-mod outcome;
 mod telling;
 
-pub use forms::{Form, Tells};
+pub use command_end::CommandEnd;
+pub use finding::Finding;
+pub use form::Form;
 pub use lines::{AsLines, Lines};
 pub use network_file::{NetworkFile, read_network_file};
-pub use outcome::Outcome;
 pub use telling::tell_found;

@@ -5,17 +5,15 @@ ghost use Rattle.sw_text.specs.Ends.{Says};
 ghost use Rattle.sw_text.specs.FaultTexts.{fault_text};
 ghost use Rattle.sw_text.specs.Lines.{line};
 
-use crate::forms::{Form, Tells};
-use crate::outcome::Outcome;
+use crate::finding::Finding;
+use crate::form::Form;
 use std::alloc::{AllocError, Global};
 use std::io::Write;
 use sw_config::Network;
 use sw_text::{Answer, Ended, TextFault, tell_memory};
 
 /// What was found of a network, where it can be told as lines.
-pub trait AsLines: Outcome {
-    ghost has_lines: { Declaration → Self → Type 0 };
-
+pub trait AsLines: Finding {
     ghost lines_of: { Declaration → Self → List ℕ };
 
     /// The lines, each with its end.
@@ -24,7 +22,7 @@ pub trait AsLines: Outcome {
     ///
     /// There is no memory for them.
     fn lines(&self, alloc: Global, network: &Network) -> Result<String, AllocError>
-        requires { has_lines network.now self.now }
+        requires { Self.Finding.is_of network.now self.now }
         ensures { IfOk result (λ text. string_bytes text ≡ lines_of network.now self.now) };
 }
 
@@ -32,12 +30,14 @@ pub trait AsLines: Outcome {
 #[derive(Clone, Copy)]
 pub struct Lines;
 
-impl Form for Lines {
+impl<X: AsLines> Form<X> for Lines {
     ghost memory = { line (codes "fault memory" ∷ []) };
 
     ghost long = { λ _. Says (line (codes "fault A1 TooLong" ∷ [])) 3 };
 
     ghost faulty = { λ _ _ fault. Says (line (fault_text fault ∷ [])) 3 };
+
+    ghost tells = { λ _ _ d found. Says (X.lines_of d found) (X.Finding.status_of found) };
 
     fn tell_memory<W: Write>(&self, writer: &mut W) -> Ended {
         tell_memory(writer)
@@ -50,12 +50,6 @@ impl Form for Lines {
     fn faulty(&self, alloc: Global, _text: &[u8], fault: &TextFault) -> Result<Answer, AllocError> {
         Answer::of_fault(alloc, fault)
     }
-}
-
-impl<X: AsLines> Tells<X> for Lines {
-    ghost can_tell = { λ _ d found. X.has_lines d found };
-
-    ghost tells = { λ _ _ d found. Says (X.lines_of d found) (X.Outcome.status_of found) };
 
     fn found(
         &self,

@@ -3,26 +3,26 @@ ghost use Rattle.std.specs.Prelude.{◌≡◌, IfOk, is_some, string_bytes};
 ghost use Rattle.sw_engine.specs.Files.{network_of};
 ghost use Rattle.sw_engine.specs.Tellings.{AnswersToFile, HoldsOfFound, IsAnswerTold, IsFileTold};
 
-use crate::forms::{Form, Tells};
+use crate::finding::Finding;
+use crate::form::Form;
 use crate::network_file::NetworkFile;
 use std::alloc::{AllocError, Global};
 use std::io::Write;
 use sw_text::{Answer, Ended, tell};
 
 // What answers a file that was read. There is none where there was no memory.
-fn answer_to<X: Drop, F: Tells<X>>(
+fn answer_to<X: Finding, F: Form<X>>(
     form: &F,
     alloc: Global,
     file: &NetworkFile,
-    found: Option<Result<X, AllocError>>,
+    found: &Option<Result<X, AllocError>>,
 ) -> Result<Answer, AllocError>
-    requires { HoldsOfFound (F.can_tell form.now) (network_of file.now) found }
-    ensures { IfOk result (λ answer. AnswersToFile (F.tells form.now) (F.Form.faulty form.now) (F.Form.long form.now) file.now found (string_bytes answer.text) answer.status) }
+    requires { HoldsOfFound X.Finding.is_of (network_of file.now) found.now }
+    ensures { IfOk result (λ answer. AnswersToFile (F.tells form.now) (F.faulty form.now) (F.long form.now) file.now found.now (string_bytes answer.text) answer.status) }
 {
     match (file, found) {
-        (NetworkFile::Network { text, network }, Some(found)) => {
-            let found = found?;
-            form.found(alloc, text, network, &found)
+        (NetworkFile::Network { text, network }, Some(Ok(found))) => {
+            form.found(alloc, text, network, found)
         }
         (NetworkFile::Faulty { text, fault }, _) => form.faulty(alloc, text, fault),
         (NetworkFile::TooLong, _) => form.long(alloc),
@@ -31,7 +31,7 @@ fn answer_to<X: Drop, F: Tells<X>>(
 }
 
 // Writes an answer, or that there was not enough memory.
-fn tell_answer<F: Form, W: Write>(
+fn tell_answer<X: Finding, F: Form<X>, W: Write>(
     form: &F,
     writer: &mut W,
     answer: Result<Answer, AllocError>,
@@ -46,16 +46,16 @@ fn tell_answer<F: Form, W: Write>(
 
 /// Tells of a network file what was found of its network, if it declares one; else its first fault, or that it is too long. Where there was not
 /// enough memory it tells that; of a read that failed it tells nothing.
-pub fn tell_found<X: Drop, F: Tells<X>, W: Write>(
+pub fn tell_found<X: Finding, F: Form<X>, W: Write>(
     form: &F,
     alloc: Global,
     file: &NetworkFile,
-    found: Option<Result<X, AllocError>>,
+    found: &Option<Result<X, AllocError>>,
     writer: &mut W,
 ) -> Ended
-    requires there { is_some found ≡ is_some (network_of file.now) }
-    requires fit { HoldsOfFound (F.can_tell form.now) (network_of file.now) found }
-    ensures { IsFileTold F.Form.memory (AnswersToFile (F.tells form.now) (F.Form.faulty form.now) (F.Form.long form.now) file.now found) file.now (W.contents writer.old) (W.contents writer.new) result }
+    requires there { is_some found.now ≡ is_some (network_of file.now) }
+    requires fit { HoldsOfFound X.Finding.is_of (network_of file.now) found.now }
+    ensures { IsFileTold F.memory (AnswersToFile (F.tells form.now) (F.faulty form.now) (F.long form.now) file.now found.now) file.now (W.contents writer.old) (W.contents writer.new) result }
 {
     if let NetworkFile::Unread = file {
         return Ended::ReadFailed;

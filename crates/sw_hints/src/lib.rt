@@ -1,24 +1,31 @@
-//! Hints: what to do about a fault of a text, for a person.
+//! Hints on how a call ended, for a person: on a flow that goes wrong or is not there, a certificate, a load or a schedule with a fault, a step that is
+//! refused, a network that is locked up. They decide nothing.
 #![tactic(auto)]
 
-mod entries;
-mod escaped;
-mod fault_words;
-mod helps;
-mod hint;
-mod key_words;
-mod lines;
-mod made_texts;
-mod nearest;
-mod note_lines;
-mod places;
+mod certificate_hints;
+mod certificate_lines;
+mod changes;
+mod flow_hints;
+mod load_hints;
+mod lock_up;
+mod lock_up_channels;
+mod lock_up_nodes;
+mod lock_up_switches;
+mod names;
+mod near_names;
+mod refused_steps;
+mod schedule_lines;
+mod step_needs;
+mod step_words;
+mod text_lines;
+mod undeclared;
+mod ways;
+mod wrong_word;
 
-pub use entries::names_of;
-pub use escaped::shown;
-pub use fault_words::{expected_text, what_text};
-pub use helps::{help_text, is_one_of, meant_help};
-pub use hint::{hint_of, network_hint};
-pub use lines::{found_line, head_line, hint_lines, told};
-pub use made_texts::{joined, told_of};
-pub use nearest::like;
-pub use places::fault_place;
+pub use certificate_hints::refused_certificate_hint;
+pub use certificate_lines::certificate_line_hint;
+pub use flow_hints::{cyclic_hint, misrouted_hint, unknown_flow_hint};
+pub use load_hints::load_hint;
+pub use lock_up::lock_up_hint;
+pub use refused_steps::refused_step_hint;
+pub use schedule_lines::schedule_line_hint;

@@ -3,10 +3,10 @@ use Rattle.std.specs.Prelude.{◌≡◌, ℕ, List, [], ◌∷◌, codes, Option
 use Rattle.std.specs.Fmt.{decimal}
 use Rattle.serde_json.specs.Data.{Data, object, string, member, no_members}
 use Rattle.sw_text.specs.FaultTexts.{fault_text, limit_text, where_text}
-use Rattle.sw_hints.specs.FaultPlaces.{IsFaultPlace}
+use Rattle.sw_faults.specs.FaultPlaces.{IsFaultPlace}
 use Rattle.sw_json.specs.Simple.{count_or_null, text_or_null}
 use Rattle.sw_output.specs.Lines.{spaced}
-use Rattle.sw_notes.specs.LineColumn.{column_of, line_of}
+use Rattle.sw_faults.specs.LineColumn.{column_of, line_of}
 use Rattle.sw_text.specs.declared.fault.KeyFault.{KeyFault}
 use Rattle.sw_text.specs.declared.fault.KeyFault.TheVariants.{MissingKey, WrongType, OutOfRange, DuplicateName, UnknownName}
 use Rattle.sw_text.specs.declared.fault.TextFault.{TextFault}

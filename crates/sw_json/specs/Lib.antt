@@ -1,4 +1,5 @@
 pub mod Simple
+pub mod ObjectAnswers
 pub mod Objects
 pub mod PlaceValues
 pub mod VerdictValues

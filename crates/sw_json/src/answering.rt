@@ -1,10 +1,10 @@
 //! What the engines share: faults of files as results, the answer round a result, and how it is told.
-ghost use Rattle.std.specs.Prelude.{◌≡◌, ◌∷◌, [], IfOk, IsOkAnd, map, string_bytes};
+ghost use Rattle.std.specs.Prelude.{◌≡◌, ◌∷◌, [], IfOk, IsOkAnd, map, option_map, string_bytes};
 ghost use Rattle.serde_json.specs.View.{view};
 ghost use Rattle.sw_json.specs.AnswerValues.{file_fault_value};
 ghost use Rattle.sw_json.specs.Plain.{IsPlain};
 ghost use Rattle.sw_text.specs.Inputs.{given};
-ghost use Rattle.sw_json.specs.Answering.{IsAnswer, IsAnswerTold, IsCommandOutcome, IsLongFile, IsMemoryTold, IsUnreadNetwork, IsUnreadTold, read_value};
+ghost use Rattle.sw_json.specs.Answering.{IsAnswer, IsAnswerTold, IsCommandOutcome, IsFaultyFile, IsLongFile, IsMemoryTold, IsUnreadNetwork, IsUnreadTold, read_value};
 
 use crate::answers::{answer_value, file_fault_value};
 use crate::command_outcome::CommandOutcome;
@@ -18,7 +18,7 @@ use serde_json::Value;
 use std::alloc::{AllocError, Global};
 use std::io::Write;
 use sw_text::statuses::{FAULTY, NO_ROOM};
-use sw_text::{Answer, Ended, FileFault, InputError, InputText, tell};
+use sw_text::{Answer, Ended, FileFault, InputError, InputText, TextFault, tell};
 
 /// The result where the file of this path has the fault.
 ///
@@ -54,6 +54,24 @@ pub fn long_file(alloc: Global, path: &str) -> Result<CommandOutcome, AllocError
     file_fault(alloc, path, fault)
 }
 
+/// The result where the text of the file has this fault.
+///
+/// # Errors
+///
+/// There is no memory for it.
+pub(crate) fn faulty_file(
+    alloc: Global,
+    path: &str,
+    text: &[u8],
+    fault: &TextFault,
+) -> Result<CommandOutcome, AllocError>
+    ensures { IfOk result (λ o. IsFaultyFile path.now text.now fault.now (view o.result) o.status) }
+{
+    faults_are_plain();
+    let fault = fault_value(alloc, text, fault);
+    file_fault(alloc, path, fault)
+}
+
 /// The result where a text was not read as a network, if it was not for want of memory.
 ///
 /// # Errors
@@ -67,46 +85,52 @@ pub fn unread_network(
 ) -> Result<CommandOutcome, AllocError>
     ensures { IfOk result (λ o. IsUnreadNetwork path.now text.now fault (view o.result) o.status) }
 {
-    faults_are_plain();
     match fault {
-        FileFault::Text(fault) => {
-            let fault = fault_value(alloc, text, &fault);
-            file_fault(alloc, path, fault)
-        }
+        FileFault::Text(fault) => faulty_file(alloc, path, text, &fault),
         FileFault::Memory => Err(AllocError),
     }
 }
 
-// A file that was read.
-fn read_value(alloc: Global, path: &str, text: &InputText) -> Result<Value, AllocError>
-    ensures { IfOk result (λ v. view v ≡ read_value path.now (given text.now)) }
+// The bytes of a text that was read, if it is not too long.
+fn bytes_of(text: &InputText) -> Option<&[u8]>
+    ensures { option_map (λ s. s.now) result ≡ given text.now }
 {
     match text {
-        InputText::Whole(text) => input_value(alloc, path, text),
-        InputText::TooLong => long_input(alloc, path),
+        InputText::Whole(text) => Some(text),
+        InputText::TooLong => None,
+    }
+}
+
+// A file that was read: its path, and its text, if that is not too long.
+fn read_value(alloc: Global, file: &(&str, Option<&[u8]>)) -> Result<Value, AllocError>
+    ensures { IfOk result (λ v. view v ≡ read_value file.now.0.now (option_map (λ s. s.now) file.now.1)) }
+{
+    match file.1 {
+        Some(text) => input_value(alloc, file.0, text),
+        None => long_input(alloc, file.0),
     }
 }
 
 // The files of a command, each by its path.
-fn file_values(alloc: Global, files: &[(&str, &InputText)]) -> Result<Vec<Value>, AllocError>
-    ensures { IfOk result (λ v. map view v.items ≡ map (λ f. read_value f.0.now (given f.1.now)) files.now) }
+fn file_values(alloc: Global, files: &[(&str, Option<&[u8]>)]) -> Result<Vec<Value>, AllocError>
+    ensures { IfOk result (λ v. map view v.items ≡ map (λ f. read_value f.0.now (option_map (λ s. s.now) f.1)) files.now) }
 {
     let mut values = Vec::new(alloc);
     for file in files {
-        add_value(&mut values, read_value(alloc, file.0, file.1))?;
+        add_value(&mut values, read_value(alloc, file))?;
     }
     Ok(values)
 }
 
 // The answer of a command of these files, with what it found, if there was memory for both.
-fn answer_to_files(
+pub(crate) fn answer_to_files(
     alloc: Global,
     command: &str,
     release: Release<'_>,
-    files: &[(&str, &InputText)],
+    files: &[(&str, Option<&[u8]>)],
     found: Result<CommandOutcome, AllocError>,
 ) -> Result<Answer, AllocError>
-    ensures { IfOk result (λ a. IsOkAnd found (λ o. IsAnswer command.now (map (λ f. read_value f.0.now (given f.1.now)) files.now) release.entry (IsCommandOutcome (view o.result) o.status) (string_bytes a.text) a.status)) }
+    ensures { IfOk result (λ a. IsOkAnd found (λ o. IsAnswer command.now (map (λ f. read_value f.0.now (option_map (λ s. s.now) f.1)) files.now) release.entry (IsCommandOutcome (view o.result) o.status) (string_bytes a.text) a.status)) }
 {
     inputs_are_plain();
     answers_are_plain();
@@ -135,7 +159,7 @@ pub fn answer_to_one(
 ) -> Result<Answer, AllocError>
     ensures { IfOk result (λ a. IsOkAnd found (λ o. IsAnswer command.now (read_value path.now (given text.now) ∷ []) release.entry (IsCommandOutcome (view o.result) o.status) (string_bytes a.text) a.status)) }
 {
-    answer_to_files(alloc, command, release, &[(path, text)], found)
+    answer_to_files(alloc, command, release, &[(path, bytes_of(text))], found)
 }
 
 /// The answer of a command of two files, with what it found.
@@ -154,7 +178,7 @@ pub fn answer_to_two(
 ) -> Result<Answer, AllocError>
     ensures { IfOk result (λ a. IsOkAnd found (λ o. IsAnswer command.now (read_value paths.entry.0.now (given first.now) ∷ read_value paths.entry.1.now (given second.now) ∷ []) release.entry (IsCommandOutcome (view o.result) o.status) (string_bytes a.text) a.status)) }
 {
-    let files = [(paths.0, first), (paths.1, second)];
+    let files = [(paths.0, bytes_of(first)), (paths.1, bytes_of(second))];
     answer_to_files(alloc, command, release, &files, found)
 }
 

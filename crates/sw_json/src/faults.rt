@@ -3,7 +3,7 @@ ghost use Rattle.std.specs.Fmt.{decimal};
 ghost use Rattle.std.specs.Option.{option_transpose};
 ghost use Rattle.std.specs.Prelude.{◌≡◌, ◌≤◌, ◌∷◌, [], IfOk, IfSome, codes, length, option_map, string_bytes};
 ghost use Rattle.sw_output.specs.Lines.{spaced};
-ghost use Rattle.sw_notes.specs.LineColumn.{column_of, line_of};
+ghost use Rattle.sw_faults.specs.LineColumn.{column_of, line_of};
 ghost use Rattle.serde_json.specs.Data.{string};
 ghost use Rattle.serde_json.specs.View.{view};
 ghost use Rattle.sw_json.specs.Objects.{member_value, object_of};
@@ -15,8 +15,7 @@ use crate::objects::{Member, object_of_six};
 use crate::simple::{count_or_null, text_or_null};
 use serde_json::Value;
 use std::alloc::{AllocError, Global};
-use sw_hints::fault_place;
-use sw_notes::position_at;
+use sw_faults::{fault_place, position_at};
 use sw_text::{TextFault, fault_text, where_text};
 use sw_topo::{Limit, TopoFault};
 

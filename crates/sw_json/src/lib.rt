@@ -12,6 +12,7 @@ mod files;
 mod inputs;
 pub mod laws;
 mod lists;
+mod object_form;
 mod objects;
 mod places;
 mod simple;
@@ -30,6 +31,7 @@ pub use faults::{fault_value, long_value, schedule_fault_value, unknown_flow_val
 pub use files::{Release, audit_value, bare_entry, kind_value, read_entry};
 pub use inputs::{input_value, long_input};
 pub use lists::{add_value, flow_name_values, text_values};
+pub use object_form::{AsValue, ObjectForm};
 pub use objects::{
     Member, object_of, object_of_five, object_of_four, object_of_seven, object_of_six,
     object_of_three, object_of_two,

@@ -4,7 +4,7 @@ use Rattle.std.specs.Fmt.{decimal}
 use Rattle.std.specs.List.{reduce}
 use Rattle.serde_json.specs.Data.{Data}
 use Rattle.sw_json_verdicts.specs.Findings.{Finding}
-use Rattle.sw_hints.specs.Shown.{shown}
+use Rattle.sw_faults.specs.Shown.{shown}
 use Rattle.sw_json.specs.FileValues.{audit_value}
 use Rattle.sw_json.specs.Texts.{text_of}
 use Rattle.sw_linter.specs.Lines.{line}

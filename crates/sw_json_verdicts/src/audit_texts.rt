@@ -12,7 +12,7 @@ use crate::judged::{Judged, kind_entry};
 use crate::statuses::is_told;
 use std::alloc::{AllocError, Global};
 use std::fmt::Write;
-use sw_hints::shown;
+use sw_faults::shown;
 use sw_json::laws::audits_are_plain;
 use sw_json::{Value, audit_value, text_of};
 use sw_text::statuses::NO_ROOM;

@@ -1,4 +1,3 @@
 pub mod Accesses
 pub mod Asked
-pub mod Unread
 pub mod Works

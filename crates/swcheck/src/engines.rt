@@ -4,9 +4,12 @@ use std::alloc::Global;
 use std::fs;
 use std::io::{Read, Write};
 use std::rt::Files;
-use sw_app_changes::{DrawOptions, draw, explain, margin, mend};
 use sw_app_rmap::{Request, rmap};
 use sw_app_run::{replay, witness};
+use sw_changes::{margin, mend};
+use sw_engine::Lines;
+use sw_explain::{DrawOptions, draw, explain};
+use sw_json::ObjectForm;
 use sw_search::VerdictWorkers;
 use sw_text::Ended;
 
@@ -33,6 +36,14 @@ pub(crate) enum SecondEngine {
     ReplayObject,
 }
 
+// The form of an answer that is an object of JSON, of a file of this name.
+fn object(path: &str) -> ObjectForm<'_> {
+    ObjectForm {
+        path,
+        release: RELEASE,
+    }
+}
+
 // What the engine makes of what the network file has.
 fn ended_by<C: VerdictWorkers, N: Read, W: Write>(
     workers: &C,
@@ -46,19 +57,25 @@ fn ended_by<C: VerdictWorkers, N: Read, W: Write>(
         Engine::RouteObject { flow } => {
             sw_json_verdicts::route(alloc, network, file, flow, RELEASE, writer)
         }
-        Engine::Explain { all } => explain(workers, alloc, network, *all, writer),
+        Engine::Explain { all } => {
+            explain(workers, alloc, network, *all, &Lines, writer).into_ended()
+        }
         Engine::ExplainObject => {
-            sw_json_changes::explain(workers, alloc, network, file, RELEASE, writer)
+            explain(workers, alloc, network, true, &object(file), writer).into_ended()
         }
-        Engine::Draw(options) => draw(workers, alloc, network, options, writer),
+        Engine::Draw(options) => {
+            draw(workers, alloc, network, options, &Lines, writer).into_ended()
+        }
         Engine::Rmap(request) => rmap(alloc, network, request, writer),
-        Engine::Mend { pairs } => mend(workers, alloc, *pairs, network, writer),
-        Engine::MendObject { pairs } => {
-            sw_json_changes::mend(workers, alloc, *pairs, network, file, RELEASE, writer)
+        Engine::Mend { pairs } => {
+            mend(workers, alloc, network, *pairs, &Lines, writer).into_ended()
         }
-        Engine::Margin => margin(workers, alloc, network, writer),
+        Engine::MendObject { pairs } => {
+            mend(workers, alloc, network, *pairs, &object(file), writer).into_ended()
+        }
+        Engine::Margin => margin(workers, alloc, network, &Lines, writer).into_ended(),
         Engine::MarginObject => {
-            sw_json_changes::margin(workers, alloc, network, file, RELEASE, writer)
+            margin(workers, alloc, network, &object(file), writer).into_ended()
         }
         Engine::Witness { tries, seed } => {
             witness(workers, alloc, network, *tries, *seed, writer)

@@ -8,21 +8,26 @@ use crate::notes::{is_noted, notes_on};
 use crate::noting_writer::Failed;
 use crate::told::tell_text;
 use crate::unread::{tell_failed, unread};
-use std::alloc::AllocError;
+use std::alloc::{AllocError, Global};
 use std::fs;
 use std::rt::Files;
 use sw_app::EndedWith;
 use sw_args::Call;
 use sw_calls::Hints;
-use sw_hints::network_hint;
-use sw_search::VerdictWorkers;
-use sw_step_hints::replay_hint;
-use sw_text::statuses::{BAD, FAULTY, LOCKED_UP};
-use sw_text::{Ended, MAX_TEXT, read_whole};
-use sw_text_hints::{certificate_hint, load_hint, schedule_hint};
-use sw_verdict_hints::{
-    misrouted_verdict_hint, named_flow_hint, refused_certificate_hint, verdict_hint,
+use sw_cert::{Certificate, CertificateFault, check};
+use sw_config::Network;
+use sw_faults::{Hint, fault_hint};
+use sw_file::read_network;
+use sw_flow::{first_fault, places};
+use sw_hints::{
+    certificate_line_hint, cyclic_hint, load_hint, lock_up_hint, misrouted_hint,
+    refused_certificate_hint, refused_step_hint, schedule_line_hint, unknown_flow_hint,
 };
+use sw_load::read_load;
+use sw_schedule::{ReplayEnd, Schedule, ScheduleFault, locked_up_parts, read_steps, replay};
+use sw_search::{Verdict, VerdictWorkers, decide};
+use sw_text::statuses::{BAD, FAULTY, LOCKED_UP};
+use sw_text::{Ended, FileFault, MAX_TEXT, read_whole};
 
 /// What a hint is of.
 #[derive(Clone, Copy)]
@@ -71,79 +76,187 @@ fn text_of<R: Files + AllocGlobal>(rt: &R, file: &str, most: usize) -> Option<Ve
     }
 }
 
-// What to tell of a fault of the second text of a run or a replay.
-fn second_hint<R: Files + AllocGlobal>(
-    rt: &R,
-    call: &Call<'_>,
-    network: &[u8],
+// The text of a hint on what goes by this name.
+fn told(
+    alloc: Global,
+    name: &str,
+    hint: Result<Hint, AllocError>,
 ) -> Result<Option<String>, AllocError> {
-    let Some(path) = second_of(call) else {
-        return Ok(None);
-    };
+    Ok(Some(hint?.text(alloc, name)?))
+}
+
+// What to tell of a fault of the load of a run.
+fn load_fault_hint<R: Files + AllocGlobal>(
+    rt: &R,
+    network: &Network,
+    path: &str,
+) -> Result<Option<String>, AllocError> {
     let Some(text) = text_of(rt, path, MAX_TEXT) else {
         return Ok(None);
     };
-    match call {
-        Call::Run { .. } => load_hint(rt.alloc(), path, network, &text),
-        Call::Replay { .. } => schedule_hint(rt.alloc(), path, network, &text),
+    match read_load(rt.alloc(), network, &text) {
+        Err(FileFault::Text(fault)) => told(
+            rt.alloc(),
+            path,
+            load_hint(rt.alloc(), network, &text, &fault),
+        ),
         _ => Ok(None),
     }
 }
 
-// What to tell of the flow that a call names, or else of its second text.
+// What to tell of a wrong line of the schedule of a replay.
+fn line_hint<R: Files + AllocGlobal>(
+    rt: &R,
+    network: &Network,
+    path: &str,
+) -> Result<Option<String>, AllocError> {
+    let Some(text) = text_of(rt, path, MAX_TEXT) else {
+        return Ok(None);
+    };
+    match read_steps(rt.alloc(), network, &text) {
+        Err(ScheduleFault::BadLine(line)) => {
+            told(
+                rt.alloc(),
+                path,
+                schedule_line_hint(rt.alloc(), network, &text, line),
+            )
+        }
+        _ => Ok(None),
+    }
+}
+
+// What to tell of the flow that a call names and that is not there, or else of its second text.
 fn named_hint<R: Files + AllocGlobal>(
     rt: &R,
     call: &Call<'_>,
     file: &str,
-    network: &[u8],
+    network: &Network,
 ) -> Result<Option<String>, AllocError> {
-    match flow_of(call) {
-        Some(flow) => named_flow_hint(rt.alloc(), file, network, flow),
-        None => second_hint(rt, call, network),
+    if let Some(flow) = flow_of(call) {
+        if network.flow_named(flow).is_some() {
+            return Ok(None);
+        }
+        return told(
+            rt.alloc(),
+            file,
+            unknown_flow_hint(rt.alloc(), network, flow),
+        );
+    }
+    match call {
+        Call::Run { load, .. } => load_fault_hint(rt, network, load),
+        Call::Replay { schedule, .. } => line_hint(rt, network, schedule),
+        _ => Ok(None),
     }
 }
 
-// What to tell of a fault of the network file, or else of what else the call names.
-fn fault_hint<R: Files + AllocGlobal>(
-    rt: &R,
-    call: &Call<'_>,
+// What to tell of the first place of a flow that has a fault.
+fn route_hint(
+    alloc: Global,
     file: &str,
-    network: &[u8],
+    network: &Network,
+    flow: &str,
 ) -> Result<Option<String>, AllocError> {
-    match network_hint(rt.alloc(), file, network) {
-        Ok(Some(hint)) => Ok(Some(hint)),
-        Ok(None) => named_hint(rt, call, file, network),
-        Err(refused) => Err(refused),
+    let Some(number) = network.flow_named(flow) else {
+        return Ok(None);
+    };
+    let listed = places(alloc, network, number)?;
+    match first_fault(network, number, &listed) {
+        None => Ok(None),
+        Some((place, fault)) => {
+            told(
+                alloc,
+                file,
+                misrouted_hint(alloc, network, number, &place, fault),
+            )
+        }
+    }
+}
+
+// What to tell of the verdict on a network: where `all`, of one that can lock up too.
+fn verdict_hint<C: VerdictWorkers>(
+    workers: &C,
+    alloc: Global,
+    file: &str,
+    network: &Network,
+    all: bool,
+) -> Result<Option<String>, AllocError> {
+    match decide(workers, alloc, network)? {
+        Verdict::Misrouted(flow, place, fault) => {
+            told(
+                alloc,
+                file,
+                misrouted_hint(alloc, network, flow, &place, fault),
+            )
+        }
+        Verdict::Cyclic(_) if all => told(alloc, "help", cyclic_hint(alloc)),
+        Verdict::Cyclic(_) | Verdict::Free(_) => Ok(None),
     }
 }
 
 // What to tell of a certificate that is refused: the line that can't be read, or else what it is refused for.
-fn certificate_hints<R: Files + AllocGlobal, C: VerdictWorkers>(
+fn certificate_hint<R: Files + AllocGlobal, C: VerdictWorkers>(
     rt: &R,
     workers: &C,
     file: &str,
-    network: &[u8],
+    network: &Network,
     path: &str,
 ) -> Result<Option<String>, AllocError> {
     let Some(text) = text_of(rt, path, MOST_EXPLAINED) else {
         return Ok(None);
     };
-    match certificate_hint(rt.alloc(), path, &text) {
-        Ok(Some(hint)) => Ok(Some(hint)),
-        Ok(None) => refused_certificate_hint(workers, rt.alloc(), file, network, path, &text),
-        Err(refused) => Err(refused),
+    let alloc = rt.alloc();
+    match Certificate::read(alloc, &text) {
+        Ok(certificate) => match check(workers, network, &certificate) {
+            Ok(_) => Ok(None),
+            Err(refusal) => {
+                told(
+                    alloc,
+                    path,
+                    refused_certificate_hint(alloc, network, file, &certificate, refusal),
+                )
+            }
+        },
+        Err(CertificateFault::Grammar(line)) => {
+            told(alloc, path, certificate_line_hint(alloc, &text, line))
+        }
+        Err(CertificateFault::Memory) => Err(AllocError),
     }
 }
 
-// What to tell of a step that is refused, or of a network that the steps lock up.
+// What to tell of a schedule's steps: of the one that is refused, or of a network that they lock up.
+fn schedule_hint(
+    alloc: Global,
+    network: &Network,
+    path: &str,
+    text: &[u8],
+    schedule: &Schedule,
+) -> Result<Option<String>, AllocError> {
+    let outcome = replay(alloc, network, schedule)?.outcome;
+    if let ReplayEnd::Refused(number, refusal) = outcome {
+        return told(
+            alloc,
+            path,
+            refused_step_hint(alloc, network, text, schedule, number, refusal),
+        );
+    }
+    match locked_up_parts(alloc, network, schedule)? {
+        None => Ok(None),
+        Some(parts) => told(alloc, path, lock_up_hint(alloc, network, &parts)),
+    }
+}
+
+// The same, of the text of a schedule.
 fn steps_hint<R: Files + AllocGlobal>(
     rt: &R,
-    network: &[u8],
+    network: &Network,
     path: &str,
 ) -> Result<Option<String>, AllocError> {
-    match text_of(rt, path, MOST_EXPLAINED) {
-        Some(text) => replay_hint(rt.alloc(), network, path, &text),
-        None => Ok(None),
+    let Some(text) = text_of(rt, path, MOST_EXPLAINED) else {
+        return Ok(None);
+    };
+    match read_steps(rt.alloc(), network, &text) {
+        Ok(schedule) => schedule_hint(rt.alloc(), network, path, &text, &schedule),
+        Err(_) => Ok(None),
     }
 }
 
@@ -153,17 +266,46 @@ fn refusal_hint<R: Files + AllocGlobal, C: VerdictWorkers>(
     workers: &C,
     call: &Call<'_>,
     file: &str,
-    network: &[u8],
+    network: &Network,
 ) -> Result<Option<String>, AllocError> {
     match call {
-        Call::Route { flow, .. } => named_flow_hint(rt.alloc(), file, network, flow),
-        Call::Decide { .. } => verdict_hint(workers, rt.alloc(), file, network),
-        Call::Check { certificate, .. } => {
-            certificate_hints(rt, workers, file, network, certificate)
-        }
+        Call::Route { flow, .. } => route_hint(rt.alloc(), file, network, flow),
+        Call::Decide { .. } => verdict_hint(workers, rt.alloc(), file, network, true),
+        Call::Check { certificate, .. } => certificate_hint(
+            rt,
+            workers,
+            file,
+            network,
+            certificate,
+        ),
         Call::Replay { schedule, .. } => steps_hint(rt, network, schedule),
         Call::Mend { .. } | Call::Witness { .. } => {
-            misrouted_verdict_hint(workers, rt.alloc(), file, network)
+            verdict_hint(workers, rt.alloc(), file, network, false)
+        }
+        _ => Ok(None),
+    }
+}
+
+// What to tell of a network file with a fault, or else of what the call has to do with its network.
+fn file_hint<R: Files + AllocGlobal, C: VerdictWorkers>(
+    rt: &R,
+    workers: &C,
+    call: &Call<'_>,
+    due: Due,
+    file: &str,
+    text: &[u8],
+) -> Result<Option<String>, AllocError> {
+    match (read_network(rt.alloc(), text), due) {
+        (Err(FileFault::Text(fault)), Due::Fault) => {
+            told(rt.alloc(), file, fault_hint(rt.alloc(), text, &fault))
+        }
+        (Ok(network), _) => {
+            let hint = match due {
+                Due::Fault => named_hint(rt, call, file, &network),
+                _ => refusal_hint(rt, workers, call, file, &network),
+            };
+            network.discard();
+            hint
         }
         _ => Ok(None),
     }
@@ -187,10 +329,7 @@ fn hint_of<R: Files + AllocGlobal, C: VerdictWorkers>(
     let Some(text) = text_of(rt, file, most) else {
         return Ok(None);
     };
-    match due {
-        Due::Fault => fault_hint(rt, call, file, &text),
-        _ => refusal_hint(rt, workers, call, file, &text),
-    }
+    file_hint(rt, workers, call, due, file, &text)
 }
 
 // Tells what is to be noted on the network that the call handed on. In the object that `decide` gives the notes stand in it.

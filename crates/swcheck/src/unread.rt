@@ -1,19 +1,14 @@
 //! Why a file can't be read or written, as the system tells it. It decides nothing.
-ghost use Rattle.std.specs.Prelude.{◌≡◌, IfOk, string_bytes};
-ghost use Rattle.swcheck.specs.Unread.{reason_of, unread_text};
-
 use crate::noting_writer::Failed;
 use crate::told::tell_text;
 use std::alloc::{AllocError, Global};
 use std::fs;
 use std::io::{self, ErrorKind, Read};
 use std::rt::Files;
-use sw_hints::head_line;
+use sw_faults::Hint;
 
 /// The system's reason, in words.
-fn reason_of(kind: ErrorKind) -> &'static str
-    ensures { result.now ≡ reason_of kind }
-{
+fn reason_of(kind: ErrorKind) -> &'static str {
     match kind {
         ErrorKind::NotFound => "no such file",
         ErrorKind::PermissionDenied => "permission denied",
@@ -58,10 +53,9 @@ fn reason_of(kind: ErrorKind) -> &'static str
 }
 
 // The path, and the reason.
-fn unread_text(alloc: Global, path: &str, kind: ErrorKind) -> Result<String, AllocError>
-    ensures { IfOk result (λ s. string_bytes s ≡ unread_text path.now kind) }
-{
-    head_line(alloc, path, &[], None, reason_of(kind))
+fn unread_text(alloc: Global, path: &str, kind: ErrorKind) -> Result<String, AllocError> {
+    let reason = String::from_str(alloc, reason_of(kind))?;
+    Hint::new(alloc, reason).text(alloc, path)
 }
 
 /// Why a file or a folder can't be read, if it can't: it is opened once more, and a byte of it is read. A pipe is not asked: it would lose

@@ -6,9 +6,9 @@ ghost use Rattle.swcheck.specs.Works.{HasJob, HasNoEngine, IsEngineOf, IsWorkOf}
 
 use crate::engines::{Engine, SecondEngine};
 use crate::recorded::Job;
-use sw_app_changes::DrawOptions;
 use sw_app_rmap::{Access, Request};
 use sw_args::Call;
+use sw_explain::DrawOptions;
 
 /// What a call comes to. What ends in `Object` answers with an object of JSON.
 #[derive(Drop)]

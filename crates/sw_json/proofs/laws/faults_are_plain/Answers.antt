@@ -3,7 +3,7 @@ use Rattle.sw_text.specs.FaultTexts.{fault_text}
 use Rattle.sw_json.specs.FaultValues.{fault_code, fault_where}
 use Rattle.sw_json.proofs.PlainValues.{told_plain}
 use Rattle.sw_output.specs.Lines.{spaced}
-use Rattle.sw_notes.specs.LineColumn.{column_of, line_of}
+use Rattle.sw_faults.specs.LineColumn.{column_of, line_of}
 use Rattle.sw_json.proofs.laws.faults_are_plain.Goals as goal
 
 pub returns : goal.returns

@@ -1,0 +1,16 @@
+use Rattle.std.proofs.Common.{false, get_or}
+use Rattle.sw_json.proofs.Added.{all_made, one_more_at}
+use Rattle.sw_margin.specs.declared.bend.Bend.{Bend}
+use Rattle.sw_changes.specs.MarginValues.{answered_value}
+use Rattle.sw_changes.proofs.BendValues.{answered}
+use Rattle.sw_changes.proofs.margin_values.answer_list.Goals as goal
+
+pub loop-bend-preserved : goal.loop-bend-preserved
+loop-bend-preserved c =
+    let none : Bend = record { number = 0; stays_free = false } in
+    one_more_at (answered_value c.args.network.now) c.args.answers.now c.loop-bend.bend-index none c.loop-bend.values.items c.add_value.new.values.items
+    c.object_of_two-value.result c.loop-bend.invariant c.loop-bend-test.true
+    (answered c.args.network.now (get_or c.args.answers.now c.loop-bend.bend-index none) c.flow_name-name.result.now c.object_of_two-value.result c.flow_name-name.ensures c.object_of_two-value.ensures) c.in_ok-add_value.ensures
+
+pub returns : goal.returns
+returns c = all_made (answered_value c.args.network.now) c.args.answers.now c.loop-bend.bend-index c.loop-bend.values.items c.loop-bend.invariant c.loop-bend-test.false

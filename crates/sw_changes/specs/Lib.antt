@@ -1,0 +1,15 @@
+pub mod LimitingTexts
+pub mod Mendings
+pub mod MendTexts
+pub mod MendAnswers
+pub mod MendLaws
+pub mod MarginTexts
+pub mod MarginValues
+pub mod MarginAnswers
+pub mod MarginLaws
+pub mod LimitingValues
+pub mod MendValues
+pub mod MendJson
+pub mod MendValueLaws
+pub mod MarginJson
+pub mod MarginValueLaws

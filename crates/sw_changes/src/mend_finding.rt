@@ -1,0 +1,79 @@
+//! What `mend` finds, told, and its engine.
+ghost use Rattle.std.specs.Prelude.{◌≡◌, IfOk, codes};
+ghost use Rattle.sw_engine.specs.Engines.{AnswersInForm, EndsByOne};
+ghost use Rattle.sw_engine.specs.Files.{IsFileRead, network_of};
+ghost use Rattle.sw_engine.specs.Tellings.{HoldsOfFound};
+ghost use Rattle.sw_changes.specs.Mendings.{IsMending, IsMendingOf};
+ghost use Rattle.sw_changes.specs.MendTexts.{mending_status, mending_text};
+ghost use Rattle.sw_changes.specs.MendValues.{mending_value};
+
+use crate::mend_texts::{mending_status, mending_text};
+use crate::mend_value_laws::mends_are_plain;
+use crate::mend_values::mending_value;
+use crate::mending::{Mending, find_mending};
+use std::alloc::{AllocError, Global};
+use std::io::{Read, Write};
+use sw_config::Network;
+use sw_engine::{AsLines, CommandEnd, Finding, Form, read_network_file, tell_found};
+use sw_json::laws::verdicts_are_plain;
+use sw_json::{AsValue, CommandOutcome};
+use sw_search::VerdictWorkers;
+
+impl Finding for Mending {
+    ghost is_of = { IsMendingOf };
+
+    ghost status_of = { mending_status };
+
+    fn status(&self) -> u8 {
+        mending_status(self)
+    }
+}
+
+impl AsLines for Mending {
+    ghost lines_of = { mending_text };
+
+    fn lines(&self, alloc: Global, network: &Network) -> Result<String, AllocError> {
+        mending_text(alloc, network, self)
+    }
+}
+
+impl AsValue for Mending {
+    ghost command = { codes "mend" };
+
+    ghost value_of = { mending_value };
+
+    fn command() -> &'static str {
+        "mend"
+    }
+
+    fn outcome(&self, alloc: Global, network: &Network) -> Result<CommandOutcome, AllocError> {
+        mends_are_plain();
+        let result = mending_value(alloc, network, self)?;
+        let status = mending_status(self);
+        Ok(CommandOutcome { result, status })
+    }
+}
+
+/// Which single changes make the network of a file free of deadlocks, in this form: 0 where some change does or the network is free
+/// already, and 1 where none does or a flow is not well routed. With pairs asked for, where no single change of a part does, which pairs of
+/// single changes do too: 0 where some pair does. The workers share the work.
+pub fn mend<T: VerdictWorkers, R: Read, F: Form<Mending>, W: Write>(
+    workers: &T,
+    alloc: Global,
+    reader: &mut R,
+    pairs: bool,
+    form: &F,
+    writer: &mut W,
+) -> CommandEnd<Mending>
+    ensures ended { EndsByOne F.memory (AnswersInForm (IsMending pairs) (F.tells form.now) (F.faulty form.now) (F.long form.now)) (R.remaining reader.old) (R.remaining reader.new) (W.contents writer.old) (W.contents writer.new) result.ended }
+    ensures read { IsFileRead (R.remaining reader.old) (R.remaining reader.new) result.file }
+    ensures found { HoldsOfFound (IsMending pairs) (network_of result.file) result.found }
+{
+    let file = read_network_file(alloc, reader);
+    let found = match file.network() {
+        Some(network) => Some(find_mending(workers, alloc, pairs, network)),
+        None => None,
+    };
+    let ended = tell_found(form, alloc, &file, &found, writer);
+    CommandEnd { ended, file, found }
+}

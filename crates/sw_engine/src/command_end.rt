@@ -1,0 +1,27 @@
+//! How a command ended, with what it read and found.
+ghost use Rattle.std.specs.Prelude.{◌≡◌};
+
+use crate::network_file::NetworkFile;
+use std::alloc::AllocError;
+use sw_text::Ended;
+
+/// How a command ended that read a network file, with what it read and found.
+#[derive(Drop)]
+pub struct CommandEnd<X> {
+    /// How it ended.
+    pub ended: Ended,
+    /// What was read.
+    pub file: NetworkFile,
+    /// What was found of the network, if the file declares one, and if there was memory for it.
+    pub found: Option<Result<X, AllocError>>,
+}
+
+impl<X: Drop> CommandEnd<X> {
+    /// How it ended, alone.
+    pub fn into_ended(self) -> Ended
+        ensures { result ≡ self.ended }
+    {
+        self.file.discard();
+        self.ended
+    }
+}

@@ -1,0 +1,195 @@
+-- The tangles of a network have one value.
+use Rattle.std.proofs.Common.{◌≡◌, ◌∙◌, ℕ, suc, ◌+◌, ◌<◌, List, Vec, Global, [], ◌∷◌, ap, arith, length, map, refl, subst, sym}
+use Rattle.std.specs.List.{AllZip, Contains}
+use Rattle.std.specs.Prelude.{AllPairs, codes, slice_index}
+use Rattle.std.proofs.lemmas.List.Elements.{All-contains, All-map}
+use Rattle.std.proofs.lemmas.List.Kept.{AllPairs-cons}
+use Rattle.serde_json.specs.Data.{Data, array, object, string, member, no_members}
+use Rattle.serde_json.specs.View.{items_of}
+use Rattle.sw_config.specs.Entries.{Declaration}
+use Rattle.sw_cycle.specs.Causes.{AreChosen, GoesOn}
+use Rattle.sw_cycle.specs.Cycles.{CauseEntry, ByFlow, ByTarget, round}
+use Rattle.sw_cycle.specs.Goers.{AreFlows}
+use Rattle.sw_search.specs.Tangles.{AreTangles, IsTangle}
+use Rattle.sw_search.specs.declared.tangle.Tangle.{Tangle}
+use Rattle.sw_flow.proofs.Listed.{Contains-from_map, Contains-map}
+use Rattle.sw_graph.specs.Cycles.{Walks}
+use Rattle.sw_graph.specs.Laws.{IsChain, IsCycle}
+use Rattle.sw_graph.specs.Levels.{Chain}
+use Rattle.sw_graph.specs.Reached.{IsListing}
+use Rattle.sw_graph.specs.Rows.{row}
+use Rattle.sw_json.specs.Simple.{count_value}
+use Rattle.sw_graph.specs.Components.{AreComponents, AreTogether, IsComponent, IsShortest, LeadsTo}
+use Rattle.sw_graph.specs.Shortest.{IsNext}
+use Rattle.sw_graph.specs.declared.component.Component.{Component}
+use Rattle.sw_graph.proofs.Chains.{chain_cons}
+use Rattle.sw_graph.proofs.Grouped.{together_back, together_on}
+use Rattle.sw_search.proofs.SameCauses.{same_causes}
+use Rattle.sw_flow.proofs.Sorted.{same_sorted}
+use Rattle.sw_search.specs.Laws.{without_places}
+use Rattle.sw_search.specs.Verdicts.{depends}
+use Rattle.sw_explain.specs.ExplainValues.{step_value, step_values, tangle_value, tangles_value}
+use Rattle.sw_search.proofs.Cycles.{same_least}
+use Rattle.sw_margin.proofs.Lawful.{same_listing}
+
+-- ---- the components of a relation
+
+-- the members of a component, and its shortest cycle
+abbrev seen : Component → List ℕ × List ℕ
+seen component = (component.members.items, component.cycle.items)
+
+module _ (dep : ℕ → ℕ → Type 0) where
+  chain_of : (c : ℕ) (cs : List ℕ) (d : ℕ) → IsChain dep c cs d → Chain dep (suc (length cs)) c d
+  chain_of c [] d k = (c, refl, k)
+  chain_of c (e ∷ es) d k = chain_cons dep (suc (length es)) c e d k.0 (chain_of e es d k.1)
+
+  -- from a member on there is one shortest way back to show
+  one_walk : (goal c : ℕ) (xs ys : List ℕ) → length xs ≡ length ys → Walks (IsNext dep goal) (c ∷ xs) goal → Walks (IsNext dep goal) (c ∷ ys) goal → xs ≡ ys
+  one_walk goal c [] [] size h k = refl
+  one_walk goal c [] (y ∷ ys) size h k = absurd (omega arith)
+  one_walk goal c (x ∷ xs) [] size h k = absurd (omega arith)
+  one_walk goal c (x ∷ xs) (y ∷ ys) size h k =
+      let same : x ≡ y = same_least _ x y h.0 k.0 in
+      let moved : Walks (IsNext dep goal) (x ∷ ys) goal = subst (λ (z : ℕ). Walks (IsNext dep goal) (z ∷ ys) goal) (sym same) k.1 in
+      let rest : xs ≡ ys = one_walk goal x xs ys (omega arith) h.1 moved in
+      λ i. same i ∷ rest i
+
+  -- members that lead to each other have one shortest cycle to show
+  one_cycle : (xs ys : List ℕ) → IsShortest dep xs → IsShortest dep ys → AreTogether dep (slice_index xs 0) (slice_index ys 0) → xs ≡ ys
+  one_cycle [] ys h k together = absurd h.closed
+  one_cycle (x ∷ xs) [] h k together = absurd k.closed
+  one_cycle (x ∷ xs) (y ∷ ys) h k together =
+      let back : AreTogether dep y x = together_back dep x y together in
+      let of_x : Chain dep (suc (length xs)) x x = chain_of x xs x h.closed in
+      let of_y : Chain dep (suc (length ys)) y y = chain_of y ys y k.closed in
+      let size : length xs ≡ length ys = omega (arith, h.shortest y (length ys) together of_y, k.shortest x (length xs) back of_x) in
+      let also_y : Chain dep (suc (length xs)) y y = subst (λ (n : ℕ). Chain dep (suc n) y y) (sym size) of_y in
+      let also_x : Chain dep (suc (length ys)) x x = subst (λ (n : ℕ). Chain dep (suc n) x x) size of_x in
+      let same : x ≡ y = omega (arith, h.first y together also_y, k.first x back also_x) in
+      let moved : Walks (IsNext dep x) (x ∷ ys) x = subst (λ (z : ℕ). Walks (IsNext dep z) (z ∷ ys) z) (sym same) k.goes in
+      let rest : xs ≡ ys = one_walk x x xs ys size h.goes moved in
+      λ i. same i ∷ rest i
+
+  -- components that have a member in common are one component
+  one_component : (p q : Component) (c : ℕ) → IsComponent dep p → IsComponent dep q → Contains p.members.items c → Contains q.members.items c → seen p ≡ seen q
+  one_component p q c h k in_p in_q =
+      let x : ℕ = slice_index p.cycle.items 0 in
+      let y : ℕ = slice_index q.cycle.items 0 in
+      let to_c : AreTogether dep x c = (h.members.member c).0 in_p in
+      let from_c : AreTogether dep c y = together_back dep y c ((k.members.member c).0 in_q) in
+      let together : AreTogether dep x y = together_on dep x c y to_c from_c in
+      let moved : IsListing (AreTogether dep x) q.members.items = record {
+        rising = k.members.rising;
+        member = λ n. (λ m. together_on dep x y n together ((k.members.member n).0 m), λ t. (k.members.member n).1 (together_on dep y x n (together_back dep x y together) t));
+      } in
+      let members : p.members.items ≡ q.members.items = same_listing (AreTogether dep x) p.members.items q.members.items h.members moved in
+      let cycle : p.cycle.items ≡ q.cycle.items = one_cycle p.cycle.items q.cycle.items h.shortest k.shortest together in
+      λ i. (members i, cycle i)
+
+  around : (cycle : List ℕ) → IsCycle dep cycle → LeadsTo dep (slice_index cycle 0) (slice_index cycle 0)
+  around [] h = absurd h
+  around (c ∷ cs) h = (length cs, chain_of c cs c h)
+
+  -- what is in the one list is in the other
+  component_in : (ps qs : List Component) → AreComponents dep ps → AreComponents dep qs → (w : List ℕ × List ℕ) → Contains (map seen ps) w → Contains (map seen qs) w
+  component_in ps qs h k w there =
+      let from = Contains-from_map seen ps w there in
+      let p : Component = from.0 in
+      let is : IsComponent dep p = All-contains (IsComponent dep) ps p h.each from.1 in
+      let x : ℕ = slice_index p.cycle.items 0 in
+      let on : LeadsTo dep x x = around p.cycle.items is.shortest.closed in
+      let found = k.every x on in
+      let also : IsComponent dep found.0 = All-contains (IsComponent dep) qs found.0 k.each found.1 in
+      let same : seen found.0 ≡ seen p = one_component found.0 p x also is found.2 ((is.members.member x).1 (on, on)) in
+      subst (λ (v : List ℕ × List ℕ). Contains (map seen qs) v) (same ∙ from.2) (Contains-map seen qs found.0 found.1)
+
+  -- the one comes before the other
+  abbrev IsEarlier : List ℕ × List ℕ → List ℕ × List ℕ → Type 0
+  IsEarlier v w = slice_index v.0 0 < slice_index w.0 0
+
+  in_order : (ps : List Component) → AllPairs (λ (p q : Component). IsEarlier (seen p) (seen q)) ps → AllPairs IsEarlier (map seen ps)
+  in_order [] h = λ i j w before within. absurd (omega (arith, within))
+  in_order (p ∷ ps) h =
+      AllPairs-cons IsEarlier (seen p) (map seen ps)
+      (All-map (IsEarlier (seen p)) seen ps (λ k d lt. h 0 (suc k) d (omega arith) (omega arith)))
+      (in_order ps (λ i j d lt low. h (suc i) (suc j) d (omega arith) (omega arith)))
+
+  pub one_list_of_components : (ps qs : List Component) → AreComponents dep ps → AreComponents dep qs → map seen ps ≡ map seen qs
+  one_list_of_components ps qs h k =
+      same_sorted IsEarlier (λ v w a b. omega arith) (map seen ps) (map seen qs) (in_order ps h.rising) (in_order qs k.rising) (component_in ps qs h k) (component_in qs ps k h)
+
+-- ---- tangles
+
+abbrev items : Vec ℕ Global → List ℕ
+items flows = flows.items
+
+-- lists of as many rows with the same items in each
+same_rows : (g h : List (Vec ℕ Global)) → length g ≡ length h → ((l : ℕ) → l < length g → row g l ≡ row h l) → map items g ≡ map items h
+same_rows [] [] size each = refl
+same_rows [] (y ∷ h) size each = absurd (omega arith)
+same_rows (x ∷ g) [] size each = absurd (omega arith)
+same_rows (x ∷ g) (y ∷ h) size each =
+    let first : x.items ≡ y.items = each 0 (omega arith) in
+    let rest : map items g ≡ map items h = same_rows g h (omega arith) (λ l lt. each (suc l) (omega arith)) in
+    λ i. first i ∷ rest i
+
+module _ (d : Declaration) where
+  -- the places that show a cause are not told
+  bare_step : (c : ℕ) (cause : CauseEntry) (flows : List ℕ) → step_value d c cause flows ≡ step_value d c (without_places cause) flows
+  bare_step c (ByTarget node) flows = refl
+  bare_step c (ByFlow flow places) flows = refl
+
+  bare_steps : (cs : List ℕ) (qs : List CauseEntry) (rs : List (List ℕ)) → step_values d cs qs rs ≡ step_values d cs (map without_places qs) rs
+  bare_steps [] qs rs = refl
+  bare_steps (c ∷ cs) [] rs = refl
+  bare_steps (c ∷ cs) (q ∷ qs) [] = refl
+  bare_steps (c ∷ cs) (q ∷ qs) (r ∷ rs) = λ i. bare_step c q r i ∷ bare_steps cs qs rs i
+
+  same_flows : (channels : List ℕ) (g h : List (Vec ℕ Global)) → AreFlows d channels g → AreFlows d channels h → map items g ≡ map items h
+  same_flows channels g h a b =
+      same_rows g h (a.size ∙ sym b.size) (λ l lt. same_row l (omega (arith, a.size)))
+    where
+      same_row : (l : ℕ) → l < length channels → row g l ≡ row h l
+      same_row l within = same_listing (λ n. GoesOn d n (round channels l) (round channels (l + 1))) (row g l) (row h l) (a.each l within) (b.each l within)
+
+  -- the steps of a cycle, whatever shows its causes
+  one_list_of_steps : (channels : List ℕ) (qs ps : List CauseEntry) (g h : List (Vec ℕ Global)) → AreChosen d channels qs → AreChosen d channels ps
+      → AreFlows d channels g → AreFlows d channels h → step_values d channels qs (map items g) ≡ step_values d channels ps (map items h)
+  one_list_of_steps channels qs ps g h a b e f =
+      let causes : map without_places qs ≡ map without_places ps = same_causes d channels qs ps a b in
+      let flows : map items g ≡ map items h = same_flows channels g h e f in
+      bare_steps channels qs (map items g) ∙ ((λ i. step_values d channels (causes i) (flows i)) ∙ sym (bare_steps channels ps (map items h)))
+
+  -- the value of a tangle with so many channels and these steps
+  abbrev of_steps : ℕ → List Data → Data
+  of_steps count steps = object (member (codes "channels") (count_value count) (member (codes "cycle") (array (items_of steps)) no_members))
+
+  one_tangle : (p q : Component) (t u : Tangle) → seen p ≡ seen q → IsTangle d p t → IsTangle d q u → tangle_value d t ≡ tangle_value d u
+  one_tangle p q t u same h k =
+      let members : p.members.items ≡ q.members.items = λ i. (same i).0 in
+      let count : t.channels ≡ u.channels = h.count ∙ (ap length members ∙ sym k.count) in
+      let channels : t.cycle.channels ≡ u.cycle.channels = h.cycle ∙ ((λ i. (same i).1) ∙ sym k.cycle) in
+      let chosen : AreChosen d u.cycle.channels t.cycle.causes = subst (λ (cs : List ℕ). AreChosen d cs t.cycle.causes) channels h.chosen in
+      let goes : AreFlows d u.cycle.channels t.flows.items = subst (λ (cs : List ℕ). AreFlows d cs t.flows.items) channels h.flows in
+      let steps = one_list_of_steps u.cycle.channels t.cycle.causes u.cycle.causes t.flows.items u.flows.items chosen k.chosen goes k.flows in
+      (λ i. of_steps (count i) (step_values d (channels i) t.cycle.causes (map items t.flows.items))) ∙ ap (of_steps u.channels) steps
+
+  one_list : (ps qs : List Component) (ts us : List Tangle) → map seen ps ≡ map seen qs → AllZip (IsTangle d) ps ts → AllZip (IsTangle d) qs us
+      → map (tangle_value d) ts ≡ map (tangle_value d) us
+  one_list [] [] [] [] same h k = refl
+  one_list [] [] (t ∷ ts) us same h k = absurd h
+  one_list [] [] [] (u ∷ us) same h k = absurd k
+  one_list [] (q ∷ qs) ts us same h k = absurd (omega (arith, ap length same))
+  one_list (p ∷ ps) [] ts us same h k = absurd (omega (arith, ap length same))
+  one_list (p ∷ ps) (q ∷ qs) [] us same h k = absurd h
+  one_list (p ∷ ps) (q ∷ qs) (t ∷ ts) [] same h k = absurd k
+  one_list (p ∷ ps) (q ∷ qs) (t ∷ ts) (u ∷ us) same h k =
+      let first : seen p ≡ seen q = cc in
+      let rest : map seen ps ≡ map seen qs = cc in
+      λ i. one_tangle p q t u first h.0 k.0 i ∷ one_list ps qs ts us rest h.1 k.1 i
+
+  pub one_tangles_value : (ts us : List Tangle) → AreTangles d ts → AreTangles d us → tangles_value d ts ≡ tangles_value d us
+  one_tangles_value ts us h k =
+      let components = one_list_of_components (depends d) h.components k.components h.are k.are in
+      ap (λ values. object (member (codes "kind") (string (codes "cyclic")) (member (codes "tangles") (array (items_of values)) no_members)))
+      (one_list h.components k.components ts us components h.told k.told)

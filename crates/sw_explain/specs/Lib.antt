@@ -1,0 +1,9 @@
+pub mod ExplainTexts
+pub mod ExplainAnswers
+pub mod ExplainValues
+pub mod ExplainJson
+pub mod ExplainLaws
+pub mod Dot
+pub mod Drawings
+pub mod DrawTexts
+pub mod DrawAnswers

@@ -1,0 +1,203 @@
+//! Why a network can lock up, as values.
+ghost use Rattle.std.specs.Prelude.{◌≡◌, ◌<◌, All, IfOk, length, map};
+ghost use Rattle.serde_json.specs.View.{view};
+ghost use Rattle.sw_explain.specs.ExplainTexts.{IsOfChannels};
+ghost use Rattle.sw_config.specs.Entries.{wiring_of};
+ghost use Rattle.sw_cycle.specs.Cycles.{cause_of};
+ghost use Rattle.sw_json.specs.Objects.{member_value};
+ghost use Rattle.sw_search.specs.Explanations.{GoesWrong, IsExplanation, IsTangled};
+ghost use Rattle.sw_explain.specs.ExplainValues.{explain_value, limit_value, slots_value, step_value, step_values, tangle_value, tangles_value, target_value, wrong_value};
+
+use crate::owed_texts::slots_at;
+use serde_json::Value;
+use std::alloc::{AllocError, Global};
+use sw_config::Network;
+use sw_cycle::Cause;
+use sw_flow::{Place, RouteFault};
+use sw_json::{
+    Member, add_value, finish_text, flow_name_values, kind_value, misrouted_fault_value,
+    object_of_four, object_of_seven, object_of_two, place_values, start_text,
+};
+use sw_output::{flow_name, node_name};
+use sw_search::{Explanation, Tangle};
+use sw_topo::Chan;
+
+// What is wrong at the last of the places that a flow's packets go over, and the values of these.
+fn wrong_value(
+    alloc: Global,
+    network: &Network,
+    flow: u16,
+    place: Place,
+    fault: RouteFault,
+    way: &[Place],
+) -> Result<Value, AllocError>
+    requires { GoesWrong network.now flow place fault way.now }
+    ensures { IfOk result (λ v. view v ≡ wrong_value network.now flow place fault way.now) }
+{
+    let fault = misrouted_fault_value(alloc, place, fault)?;
+    let way = place_values(alloc, network, way)?;
+    let name = flow_name(network, flow);
+    object_of_four(
+        alloc,
+        ("fault", Member::Value(fault)),
+        ("flow", Member::Text(name)),
+        ("kind", Member::Text("misrouted")),
+        ("way", Member::Value(Value::Array(way))),
+    )
+}
+
+// The node whose target makes a channel wait for the next, or null where flows do.
+fn target_value<'a>(network: &'a Network, cause: &Cause) -> Member<'a>
+    ensures { member_value result ≡ target_value network.now (cause_of cause.now) }
+{
+    match cause {
+        Cause::Target(node) => Member::Text(node_name(network, *node)),
+        Cause::Flow(_, _) => Member::Value(Value::Null),
+    }
+}
+
+// How many commands may be unanswered at the target: null where any number may, and where flows make a channel wait.
+fn limit_value(network: &Network, cause: &Cause) -> Member<'static>
+    ensures { member_value result ≡ limit_value network.now (cause_of cause.now) }
+{
+    let Cause::Target(node) = cause else {
+        return Member::Value(Value::Null);
+    };
+    match network.limit_at(*node) {
+        Some(limit) => Member::Number(u64::from(limit)),
+        None => Member::Value(Value::Null),
+    }
+}
+
+// How many replies the target may owe: null where flows make a channel wait.
+fn slots_value(network: &Network, cause: &Cause) -> Member<'static>
+    ensures { member_value result ≡ slots_value network.now (cause_of cause.now) }
+{
+    let Cause::Target(node) = cause else {
+        return Member::Value(Value::Null);
+    };
+    match slots_at(network, *node) {
+        Some(slots) => Member::Number(u64::from(slots)),
+        None => Member::Value(Value::Null),
+    }
+}
+
+// A channel of a cycle, and what makes it wait for the next.
+fn step_value(
+    alloc: Global,
+    network: &Network,
+    channel: Chan,
+    cause: &Cause,
+    flows: &[u16],
+) -> Result<Value, AllocError>
+    requires { channel < length (wiring_of network.now).ends }
+    ensures { IfOk result (λ v. view v ≡ step_value network.now channel (cause_of cause.now) flows.now) }
+{
+    let end = finish_text(alloc, network, channel)?;
+    let start = start_text(alloc, network, channel)?;
+    let names = flow_name_values(alloc, network, flows)?;
+    let number = channel.number();
+    object_of_seven(
+        alloc,
+        ("channel", Member::Number(u64::from(number))),
+        ("end", Member::Value(Value::String(end))),
+        ("flows", Member::Value(Value::Array(names))),
+        ("limit", limit_value(network, cause)),
+        ("slots", slots_value(network, cause)),
+        ("start", Member::Value(Value::String(start))),
+        ("target", target_value(network, cause)),
+    )
+}
+
+// An object for each channel of a cycle.
+fn step_values(
+    alloc: Global,
+    network: &Network,
+    channels: &[Chan],
+    causes: &[Cause],
+    flows: &[Vec<u16>],
+) -> Result<Vec<Value>, AllocError>
+    requires within { All (λ c. c < length (wiring_of network.now).ends) channels.now }
+    requires caused { length causes.now ≡ length channels.now }
+    requires made { length flows.now ≡ length channels.now }
+    ensures { IfOk result (λ v. map view v.items ≡ step_values network.now channels.now (map cause_of causes.now) (map (λ row. row.items) flows.now)) }
+{
+    let mut values = Vec::new(alloc);
+    for (i, channel) in channels.iter().enumerate() {
+        let value = step_value(alloc, network, *channel, &causes[i], &flows[i]);
+        add_value(&mut values, value)?;
+    }
+    Ok(values)
+}
+
+// A tangle, with its shortest cycle.
+fn tangle_value(alloc: Global, network: &Network, tangle: &Tangle) -> Result<Value, AllocError>
+    requires { IsOfChannels network.now tangle.now }
+    ensures { IfOk result (λ v. view v ≡ tangle_value network.now tangle.now) }
+{
+    let steps = step_values(
+        alloc,
+        network,
+        &tangle.cycle.channels,
+        &tangle.cycle.causes,
+        &tangle.flows,
+    )?;
+    let count = tangle.channels;
+    object_of_two(
+        alloc,
+        ("channels", Member::Number(count as u64)),
+        ("cycle", Member::Value(Value::Array(steps))),
+    )
+}
+
+// An object for each tangle.
+fn tangle_values(
+    alloc: Global,
+    network: &Network,
+    tangles: &[Tangle],
+) -> Result<Vec<Value>, AllocError>
+    requires { All (IsOfChannels network.now) tangles.now }
+    ensures { IfOk result (λ v. map view v.items ≡ map (tangle_value network.now) tangles.now) }
+{
+    let mut values = Vec::new(alloc);
+    for tangle in tangles {
+        add_value(&mut values, tangle_value(alloc, network, tangle))?;
+    }
+    Ok(values)
+}
+
+// Channels that can wait for one another in circles.
+fn tangles_value(alloc: Global, network: &Network, tangles: &[Tangle]) -> Result<Value, AllocError>
+    requires { IsTangled network.now tangles.now }
+    ensures { IfOk result (λ v. view v ≡ tangles_value network.now tangles.now) }
+{
+    // Names the network, which is valid by its type.
+    let _topology = network.topology();
+    let values = tangle_values(alloc, network, tangles)?;
+    object_of_two(
+        alloc,
+        ("kind", Member::Text("cyclic")),
+        ("tangles", Member::Value(Value::Array(values))),
+    )
+}
+
+/// The object that stands for what is told of a network.
+pub(crate) fn explain_value(
+    alloc: Global,
+    network: &Network,
+    explanation: &Explanation,
+) -> Result<Value, AllocError>
+    requires { IsExplanation network.now explanation.now }
+    ensures { IfOk result (λ v. view v ≡ explain_value network.now explanation.now) }
+{
+    match explanation {
+        Explanation::Misrouted {
+            flow,
+            place,
+            fault,
+            way,
+        } => wrong_value(alloc, network, *flow, *place, *fault, way),
+        Explanation::Cyclic(tangles) => tangles_value(alloc, network, tangles),
+        Explanation::Free => kind_value(alloc, "free"),
+    }
+}

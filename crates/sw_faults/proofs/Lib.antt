@@ -1,0 +1,5 @@
+mod Brought
+mod Firsts
+mod Pieces
+mod Placed
+mod Reached

@@ -1,0 +1,13 @@
+pub mod Entries
+pub mod FaultHints
+pub mod FaultPlaces
+pub mod FileNames
+pub mod Finding
+pub mod LineColumn
+pub mod Lookup
+pub mod Nearest
+pub mod Notes
+pub mod Passing
+pub mod Places
+pub mod ReplyNotes
+pub mod Shown

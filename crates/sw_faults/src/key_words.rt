@@ -1,0 +1,128 @@
+//! What may stand at the keys of a network file or a load file.
+use crate::unread::text_fault;
+use std::alloc::{AllocError, Global};
+use sw_file::declared_version;
+use sw_file::keys::{
+    DOCUMENT_KEYS, FLOW_KEYS, SWITCH_KEYS, link_keys, node_keys, reply_keys, route_keys,
+    target_keys,
+};
+use sw_text::{Key, Section, Version};
+use toml::Table;
+
+/// By the words of which version a fault of the document is told: of version 3 where it is of that version, else of version 2.
+///
+/// # Errors
+///
+/// There is no memory to look.
+pub(crate) fn words_version(alloc: Global, document: &Table) -> Result<Version, AllocError> {
+    match declared_version(alloc, document) {
+        Ok(Version::One) => Ok(Version::Two),
+        Ok(Version::Two) => Ok(Version::Two),
+        Ok(Version::Three) => Ok(Version::Three),
+        Err(refused) => {
+            text_fault(refused)?;
+            Ok(Version::Two)
+        }
+    }
+}
+
+/// The keys of a table, those of this version too.
+pub(crate) fn keys_of(version: Version, section: Section) -> &'static [Key] {
+    match section {
+        Section::Document => DOCUMENT_KEYS,
+        Section::Node(_) => node_keys(version),
+        Section::Target(_) => target_keys(version),
+        Section::Switch(_) => SWITCH_KEYS,
+        Section::Route(_, _) => route_keys(version),
+        Section::Link(_) => link_keys(version),
+        Section::Flow(_) => FLOW_KEYS,
+        Section::Reply(_) => reply_keys(version),
+        Section::Packet(_) => &[Key::Flow, Key::Cargo, Key::End, Key::Count],
+    }
+}
+
+/// Those of version 2, and not of version 1.
+pub(crate) fn new_keys_of(section: Section) -> &'static [Key] {
+    match section {
+        Section::Target(_) => &[Key::Slots],
+        Section::Route(_, _) => &[Key::Last],
+        Section::Link(_) => &[Key::BufferA, Key::BufferB],
+        _ => &[],
+    }
+}
+
+/// Those of version 3, and not of version 2.
+pub(crate) fn newest_keys_of(section: Section) -> &'static [Key] {
+    match section {
+        Section::Node(_) => &[Key::Outstanding],
+        Section::Reply(_) => &[Key::Outstanding],
+        _ => &[],
+    }
+}
+
+/// Those that stand beside a switch alone.
+pub(crate) fn port_keys(section: Section) -> &'static [Key] {
+    match section {
+        Section::Link(_) => &[Key::APort, Key::BPort],
+        _ => &[],
+    }
+}
+
+/// The keys of the document, for a table that stands below it.
+pub(crate) fn outer_keys(section: Section) -> &'static [Key] {
+    match section {
+        Section::Document => &[],
+        Section::Packet(_) => &[Key::Packet],
+        _ => DOCUMENT_KEYS,
+    }
+}
+
+/// How many replies a target may owe.
+fn slots_words(version: Version) -> &'static str {
+    match version {
+        Version::One | Version::Two => "a number from 1 to 8",
+        Version::Three => "a number from 1 to 64",
+    }
+}
+
+/// What may stand at a key of a table, by the words of this version.
+pub(crate) fn value_words(version: Version, section: Section, key: Key) -> &'static str {
+    match key {
+        Key::Version => "1, 2 or 3",
+        Key::Node | Key::Link => "a list of at most 1024 tables",
+        Key::Switch => "a list of at most 512 tables",
+        Key::Flow => match section {
+            Section::Document => "a list of at most 4096 tables",
+            _ => "the name of a flow",
+        },
+        Key::Name => "a text of 1 to 32 letters, digits, '_', '-' and '.'",
+        Key::Target | Key::Reply => "a table",
+        Key::Logical | Key::Initiator => "a number from 32 to 254",
+        Key::TargetKey => "a number from 0 to 255",
+        Key::Start => "a number from 0 to 1099511627775",
+        Key::Size => "a number from 1 to 65536, and 'start' + 'size' at most 1099511627776",
+        Key::Slots => slots_words(version),
+        Key::Arbiter => "\"fixed\", \"round-robin\" or \"least-recent\"",
+        Key::Route => "a list of tables",
+        Key::Address => match section {
+            Section::Route(_, _) => "a number from 32 to 254",
+            _ => "a list of at most 32 numbers from 0 to 255",
+        },
+        Key::Last => "a number from that of 'address' to 254",
+        Key::Ports => "a list of 1 to 32 numbers from 0 to 31",
+        Key::Delete => "true or false",
+        Key::A | Key::B => "the name of a node or a switch",
+        Key::APort | Key::BPort => "a number from 0 to 31",
+        Key::Buffer | Key::BufferA | Key::BufferB => "a number from 8 to 4096",
+        Key::From | Key::To => "the name of a node",
+        Key::Left => "a number from 0 to how many numbers 'address' has",
+        Key::Path => "a list of at most 12 numbers from 0 to 255, the first not 0",
+        Key::Outstanding => "a number from 1 to 65535",
+        Key::Packet => "a list of at most 4096 tables",
+        Key::Cargo => {
+            "1 to 4096 bytes: pairs of hexadecimal digits, or one pair, '*' and a number from 1 to 4096"
+        }
+        Key::End => "\"EOP\" or \"EEP\"",
+        Key::Count => "a number from 1 to 1000, and at most 65536 packets in all",
+    }
+}

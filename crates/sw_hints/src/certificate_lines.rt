@@ -1,0 +1,82 @@
+//! The hint of a line of a certificate's text that is not as the grammar asks.
+use crate::text_lines::{add_line, line_hint, nth_line};
+use std::alloc::{AllocError, Global};
+use sw_cert::{MAX_ADDRESS, MAX_NUMBER};
+use sw_faults::Hint;
+use sw_text::{cut, number};
+
+// What may stand behind this line.
+fn expected_after(before: &[u8]) -> &'static str {
+    if before.is_empty() {
+        "swcert 1"
+    } else if before.starts_with(b"swcert") {
+        "channels N, N from 0 to 2048"
+    } else if before.starts_with(b"channels") || before.starts_with(b"number") {
+        "number V, V from 0 to 65535, for each channel, and then flows M, M from 0 to 8192"
+    } else if before.starts_with(b"end") {
+        "nothing behind the line 'end'"
+    } else {
+        "for each flow flow P, P from 0 to 67584, and P lines place C K, C from 0 to 65535, K from 0 to 32, rising by C and then by K; then end"
+    }
+}
+
+// The channel of a line of a place, and how many address bytes are deleted there.
+fn place_in(line: &[u8]) -> Option<(u32, u32)> {
+    let (channel, deleted) = cut(line.strip_prefix(b"place ")?, b' ')?;
+    let channel = number(channel, MAX_NUMBER)?;
+    let deleted = number(deleted, u32::from(MAX_ADDRESS))?;
+    Some((channel, deleted))
+}
+
+// How many of the lines before this one begin a flow.
+fn flows_before(text: &[u8], line: usize) -> usize {
+    text.split(|byte| *byte == b'\n')
+        .take(line.saturating_sub(1))
+        .filter(|words| words.starts_with(b"flow "))
+        .count()
+}
+
+// That a place of a flow does not rise above the one before it.
+fn order_note(
+    alloc: Global,
+    flow: usize,
+    last: (u32, u32),
+    place: (u32, u32),
+) -> Result<String, AllocError> {
+    let (channel, deleted) = place;
+    let (last_channel, last_deleted) = last;
+    format!(in alloc;
+        "place {channel} {deleted} of flow {flow} stands behind place {last_channel} {last_deleted}"
+    )
+}
+
+// Says what would be right, and whether the line is a place that does not rise above the one before it.
+fn fill(alloc: Global, text: &[u8], line: usize, hint: &mut Hint) -> Result<(), AllocError> {
+    let before = nth_line(text, line.saturating_sub(1));
+    hint.expected = String::from_str(alloc, expected_after(before))?;
+    match (place_in(before), place_in(nth_line(text, line))) {
+        (Some(last), Some(place)) if last >= place => {
+            let flow = flows_before(text, line).saturating_sub(1);
+            add_line(&mut hint.notes, order_note(alloc, flow, last, place)?)
+        }
+        _ => Ok(()),
+    }
+}
+
+/// The hint of the line of a certificate's text, counted from 1, that is not as the grammar asks.
+///
+/// # Errors
+///
+/// There is no memory for the hint.
+pub fn certificate_line_hint(alloc: Global, text: &[u8], line: usize) -> Result<Hint, AllocError> {
+    let what = format!(in alloc; "refused C1 Grammar {line}: the line is not as the grammar asks")?;
+    let words = nth_line(text, line);
+    let mut hint = line_hint(alloc, line, words, words, what)?;
+    match fill(alloc, text, line, &mut hint) {
+        Ok(()) => Ok(hint),
+        Err(refused) => {
+            drop(hint);
+            Err(refused)
+        }
+    }
+}

@@ -1,5 +1,0 @@
-use Rattle.sw_app_changes.proofs.OnChannels.{way_within}
-use Rattle.sw_json_changes.proofs.explain_values.wrong_value.Goals as goal
-
-pub place_values-requires : goal.place_values-requires
-place_values-requires c = way_within c.args.network.now c.args.flow c.args.place c.args.fault c.args.way.now c.requires

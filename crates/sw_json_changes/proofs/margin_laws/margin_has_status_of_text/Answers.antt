@@ -1,5 +1,0 @@
-use Rattle.sw_json_changes.proofs.MarginOnce.{margin_has_status_of_text}
-use Rattle.sw_json_changes.proofs.margin_laws.margin_has_status_of_text.Goals as goal
-
-pub returns : goal.returns
-returns c = margin_has_status_of_text c.margin_has_one_answer.ensures

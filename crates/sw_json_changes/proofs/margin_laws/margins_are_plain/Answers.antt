@@ -1,5 +1,0 @@
-use Rattle.sw_json_changes.proofs.MarginPlain.{margins_plain}
-use Rattle.sw_json_changes.proofs.margin_laws.margins_are_plain.Goals as goal
-
-pub returns : goal.returns
-returns c = margins_plain

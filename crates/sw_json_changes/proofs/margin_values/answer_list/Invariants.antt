@@ -1,7 +1,0 @@
-use Rattle.std.proofs.Common.{◌≡◌, map, take}
-use Rattle.serde_json.specs.View.{view}
-use Rattle.sw_json_changes.specs.MarginValues.{answered_value}
-use Rattle.sw_json_changes.proofs.margin_values.answer_list.Given as goal
-
-abbrev pub invariant-loop-bend : goal.invariant-loop-bend
-invariant-loop-bend l = map view l.values.items ≡ map (answered_value l.network) (take l.bend-index l.answers)

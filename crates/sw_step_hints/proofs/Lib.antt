@@ -1,3 +1,0 @@
-pub mod Lines
-mod Numbered
-mod StepWords

@@ -1,2 +1,0 @@
-pub mod LockHints
-pub mod StepHints

@@ -1,7 +1,0 @@
-pub mod Firsts
-mod LastPlace
-mod FlowWays
-mod FlowNames
-pub mod TextsMade
-mod ChannelNumbers
-mod ListedPlaces

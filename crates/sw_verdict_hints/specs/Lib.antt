@@ -1,5 +1,0 @@
-pub mod RouteHints
-pub mod FlowHints
-pub mod VerdictHints
-pub mod CertificateHints
-pub mod MadeTexts
