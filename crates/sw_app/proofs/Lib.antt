@@ -1,10 +1,9 @@
-pub mod NamedFlows
 pub mod PlaceChannels
-pub mod FlowAnswers
-pub mod OneAnswer
+mod RouteLines
+mod RouteFound
+pub mod OneRoute
 pub mod OneVerdict
 pub mod ShownFree
 pub mod Told
 pub mod OneCount
-pub mod Keeping
 pub mod OneReport

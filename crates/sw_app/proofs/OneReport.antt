@@ -1,9 +1,8 @@
 -- `report` has one answer.
-use Rattle.std.proofs.Common.{◌≡◌, ◌∙◌, ℕ, List, ap, length, map, sym}
-use Rattle.std.specs.Prelude.{Err, Ok, Result, sum}
+use Rattle.std.proofs.Common.{◌≡◌, ◌∙◌, ℕ, List, ap, length, map, refl, sym}
+use Rattle.std.specs.Prelude.{sum}
 use Rattle.sw_config.specs.Entries.{Declaration, all_flows}
-use Rattle.sw_text.specs.declared.fault.TextFault.{TextFault}
-use Rattle.sw_file.specs.Network.{network_text}
+use Rattle.sw_engine.proofs.LineEnds.{one_in_lines}
 use Rattle.sw_flow.specs.declared.place.Place.{Place}
 use Rattle.sw_flow.specs.Places.{IsPlaceList}
 use Rattle.sw_cert.specs.Text.{Contents}
@@ -18,9 +17,8 @@ use Rattle.sw_search.proofs.Zips.{zip_determined}
 use Rattle.sw_output.specs.ReportTexts.{report_text}
 use Rattle.sw_output.specs.VerdictTexts.{cyclic_words, free_words, misrouted_words}
 use Rattle.sw_app.specs.Laws.{ReportHasOneAnswer}
-use Rattle.sw_app.specs.VerdictAnswers.{IsFindingsAnswer, OfNetwork, verdict_words}
+use Rattle.sw_app.specs.VerdictAnswers.{IsReportFinding, report_lines, verdict_words}
 use Rattle.sw_app.proofs.OneCount.{one_count}
-use Rattle.sw_text.proofs.Results.{says_once}
 
 words_once : (d : Declaration) (v w : Verdict) → IsVerdict d v → IsVerdict d w → verdict_words d v ≡ verdict_words d w
 words_once d (Misrouted i p fault) (Misrouted j q other) h k =
@@ -57,10 +55,5 @@ findings_once d f g h k =
     let words = words_once d f.verdict g.verdict h.verdict k.verdict in
     (λ i. report_text d (places i) (dependencies i) (words i))
 
-read_once : (r : Result Declaration TextFault) (text other : List ℕ) (status number : ℕ) → OfNetwork IsFindingsAnswer r text status → OfNetwork IsFindingsAnswer r other number
-    → (text ≡ other) × (status ≡ number)
-read_once (Ok d) text other status number (f, h, says) (g, k, also) = (says.0 ∙ (findings_once d f g h k ∙ sym also.0), says.1 ∙ sym also.1)
-read_once (Err fault) text other status number p q = says_once _ _ text other status number p q
-
 pub report_has_one_answer : ReportHasOneAnswer
-report_has_one_answer bytes text other status number p q = read_once (network_text bytes) text other status number p q
+report_has_one_answer = one_in_lines IsReportFinding report_lines (λ _. 0) (λ d x y h k. (findings_once d x.findings y.findings h k, refl))

@@ -1,9 +1,7 @@
 -- `decide` has one answer.
 use Rattle.std.proofs.Common.{◌≡◌, ◌∙◌, ℕ, List, [], ◌∷◌, ◌++◌, ap, length, map, refl, sym}
-use Rattle.std.specs.Prelude.{Err, Ok, Result}
 use Rattle.sw_config.specs.Entries.{Declaration}
-use Rattle.sw_text.specs.declared.fault.TextFault.{TextFault}
-use Rattle.sw_file.specs.Network.{network_text}
+use Rattle.sw_engine.proofs.LineEnds.{one_in_lines}
 use Rattle.sw_cert.specs.Grammar.{spelling}
 use Rattle.sw_cert.specs.Text.{Contents}
 use Rattle.sw_search.specs.Cycles.{ByFlow, ByTarget, CauseEntry, CycleEntry}
@@ -15,8 +13,7 @@ use Rattle.sw_search.proofs.Determined.{determined}
 use Rattle.sw_output.specs.VerdictTexts.{cycle_line, cycle_lines, cycle_text, cyclic_words, misrouted_words}
 use Rattle.sw_output.specs.Lines.{line}
 use Rattle.sw_app.specs.Laws.{DecideHasOneAnswer}
-use Rattle.sw_app.specs.VerdictAnswers.{IsVerdictAnswer, OfNetwork, verdict_status, verdict_text}
-use Rattle.sw_text.proofs.Results.{says_once}
+use Rattle.sw_app.specs.VerdictAnswers.{IsDecideFinding, decide_lines, decide_status, verdict_status, verdict_text}
 
 -- a cycle's text says nothing of the places that show its causes
 without : (d : Declaration) (channels : List ℕ) (causes : List CauseEntry) → cycle_lines d channels causes ≡ cycle_lines d channels (map without_places causes)
@@ -47,11 +44,5 @@ verdict_once d (Free contents) (Free other) h k =
 verdict_once d (Cyclic cycle) (Cyclic other) h k =
     (same_text d cycle other (determined d (Cyclic cycle) (Cyclic other) h k), refl)
 
-read_once : (r : Result Declaration TextFault) (text other : List ℕ) (status number : ℕ) → OfNetwork IsVerdictAnswer r text status → OfNetwork IsVerdictAnswer r other number
-    → (text ≡ other) × (status ≡ number)
-read_once (Ok d) text other status number (v, h, says) (w, k, also) =
-    let same = verdict_once d v w h k in (says.0 ∙ same.0 ∙ sym also.0, says.1 ∙ same.1 ∙ sym also.1)
-read_once (Err fault) text other status number p q = says_once _ _ text other status number p q
-
 pub decide_has_one_answer : DecideHasOneAnswer
-decide_has_one_answer bytes text other status number p q = read_once (network_text bytes) text other status number p q
+decide_has_one_answer = one_in_lines IsDecideFinding decide_lines decide_status (λ d x y h k. verdict_once d x.verdict y.verdict h k)

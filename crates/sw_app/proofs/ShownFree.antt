@@ -4,8 +4,6 @@ use Rattle.std.specs.Prelude.{Option}
 use Rattle.std.specs.Io.KnownBytes.{Appends}
 use Rattle.std.specs.List.{AllByRecursion, AllZip}
 use Rattle.std.proofs.lemmas.List.Elements.{recursion_from_All}
-use Rattle.sw_text.specs.declared.read_stream.ReadError.{ReadError}
-use Rattle.sw_text.specs.declared.read_stream.ReadError.TheVariants.{TooLong, Failed, Memory}
 use Rattle.sw_config.specs.Entries.{FlowEntry, Declaration, all_flows}
 use Rattle.sw_config.specs.Valid.{IsFlow, IsValid}
 use Rattle.sw_flow.specs.declared.place.Place.{Place}
@@ -25,9 +23,9 @@ use Rattle.sw_text.specs.declared.read_texts.InputError.{InputError}
 use Rattle.sw_text.specs.declared.read_texts.InputError.TheVariants as input
 use Rattle.sw_text.specs.declared.write_answer.Ended.{Ended}
 use Rattle.sw_text.specs.declared.write_answer.Ended.TheVariants.{Status, ReadFailed, WriteFailed}
-use Rattle.sw_app.specs.CheckAnswers.{AreShownDeadlockFree, IsShownDeadlockFree}
-use Rattle.sw_text.specs.Ends.{AreUnreadTold, IsMemoryTold, IsTold, IsUnreadTold}
-use Rattle.sw_app.specs.VerdictAnswers.{SaysCertificate, WritesAccepted, verdict_status}
+use Rattle.sw_app.specs.CheckAnswers.{IsShownDeadlockFree}
+use Rattle.sw_text.specs.Ends.{AreUnreadTold, IsMemoryTold, IsTold}
+use Rattle.sw_app.specs.VerdictAnswers.{SaysCertificate, verdict_status}
 
 -- ---- a free network's certificate has a text
 
@@ -72,17 +70,6 @@ not_zero old new text status ended other is zero = other (told_zero old new text
 pub memory_not_zero : (old new : Option (List ℕ)) (ended : Ended) → IsMemoryTold old new ended → ended ≡ Status 0 → ⊥
 memory_not_zero old new ended is zero = not_zero old new _ 5 ended (λ bad. omega (arith, bad)) is zero
 
-pub unread_not_zero : (error : ReadError) (old new : Option (List ℕ)) (ended : Ended) → IsUnreadTold error old new ended → ended ≡ Status 0 → ⊥
-unread_not_zero TooLong old new ended is zero = not_zero old new _ 3 ended (λ bad. omega (arith, bad)) is zero
-unread_not_zero Memory old new ended is zero = memory_not_zero old new ended is zero
-unread_not_zero Failed old new ended is zero = let bad : ReadFailed ≡ Status 0 = sym is.0 ∙ zero in cc
-
 pub two_unread_not_zero : (error : InputError) (old new : Option (List ℕ)) (ended : Ended) → AreUnreadTold error old new ended → ended ≡ Status 0 → ⊥
 two_unread_not_zero input.Memory old new ended is zero = memory_not_zero old new ended is zero
 two_unread_not_zero input.Failed old new ended is zero = let bad : ReadFailed ≡ Status 0 = sym is.0 ∙ zero in cc
-
-pub writes_accepted : (old new : Option (List ℕ)) (read text : List ℕ) (status : ℕ) (ended : Ended) → (status ≡ 0 → AreShownDeadlockFree read text)
-    → IsTold old new text status ended → ended ≡ Status 0 → WritesAccepted read old new
-writes_accepted old new read text status ended shown is zero =
-    let told = told_zero old new text status ended is zero in
-    (text, shown told.0, told.1)

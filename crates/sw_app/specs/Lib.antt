@@ -3,7 +3,6 @@ pub mod RouteAnswers
 pub mod CheckTexts
 pub mod CheckAnswers
 pub mod Laws
-pub mod Kept
 pub mod VerdictAnswers
 pub mod MigrateAnswers
 pub mod Samples

@@ -1,13 +1,12 @@
 -- The text of `route` (this project's choice).
 use Rattle.std.specs.Prelude.{ℕ, List, [], ◌∷◌, ◌++◌, codes, flat_map, Option, Some, None}
 use Rattle.std.specs.Fmt.{decimal}
-use Rattle.sw_config.specs.Entries.{Declaration, FlowEntry}
+use Rattle.sw_config.specs.Entries.{Declaration}
 use Rattle.sw_flow.specs.declared.place.Place.{Place}
 use Rattle.sw_flow.specs.declared.fault.RouteFault.{RouteFault}
-use Rattle.sw_flow.specs.Faults.{first_fault_of}
 use Rattle.sw_output.specs.Lines.{line}
 use Rattle.sw_output.specs.ChannelTexts.{channel_text}
-use Rattle.sw_output.specs.FlowTexts.{route_fault_text}
+use Rattle.sw_output.specs.FlowTexts.{flow_name, route_fault_text}
 
 -- a place: the channel's number, how many address bytes are deleted there, and the channel's ends
 abbrev pub place_line : Declaration → Place → List ℕ
@@ -22,10 +21,6 @@ abbrev pub outcome_status : Option (Place × RouteFault) → ℕ
 outcome_status None = 0
 outcome_status (Some fault) = 1
 
--- the flow's name, its places, and a fault of one of them, if there is one
-abbrev pub text_of : Declaration → FlowEntry → List Place → Option (Place × RouteFault) → List ℕ
-text_of d f places fault = line (codes "flow" ∷ f.name ∷ []) ++ (flat_map (place_line d) places ++ outcome_line fault)
-
--- the text with the first place that has a fault
-abbrev pub route_text : Declaration → FlowEntry → List Place → List ℕ
-route_text d f places = text_of d f places (first_fault_of d f places)
+-- the name of the flow of that number, its places, and the fault of one of them, if there is one
+abbrev pub route_text : Declaration → ℕ → List Place → Option (Place × RouteFault) → List ℕ
+route_text d flow places fault = line (codes "flow" ∷ flow_name d flow ∷ []) ++ (flat_map (place_line d) places ++ outcome_line fault)

@@ -1,22 +1,21 @@
 -- What `decide` and `report` answer (this project's choice).
-use Rattle.std.specs.Prelude.{ℕ, List, [], ◌∷◌, Option, length, Result, Ok, Err}
+use Rattle.std.specs.Prelude.{◌≡◌, ℕ, List, [], ◌∷◌, Option, length}
 use Rattle.std.specs.Io.KnownBytes.{Appends}
 use Rattle.sw_config.specs.Entries.{Declaration}
-use Rattle.sw_text.specs.declared.fault.TextFault.{TextFault}
-use Rattle.sw_file.specs.Network.{network_text}
 use Rattle.sw_cert.specs.Grammar.{spelling}
 use Rattle.sw_cert.specs.Text as certificate
+use Rattle.sw_engine.specs.LineAnswers.{NetworkFileInLines}
 use Rattle.sw_search.specs.declared.verdict.Verdict.{Verdict}
 use Rattle.sw_search.specs.declared.verdict.Verdict.TheVariants.{Misrouted, Cyclic, Free}
-use Rattle.sw_search.specs.declared.verdict.Findings.{Findings}
 use Rattle.sw_search.specs.Findings.{AreFindings}
 use Rattle.sw_search.specs.Verdicts.{IsVerdict}
 use Rattle.sw_output.specs.Lines.{line}
 use Rattle.sw_output.specs.ReportTexts.{report_text}
 use Rattle.sw_output.specs.VerdictTexts.{cycle_text, cyclic_words, free_words, misrouted_words}
-use Rattle.sw_app.specs.CheckAnswers.{AreShownDeadlockFree}
-use Rattle.sw_text.specs.Ends.{Answers, GivesAll, Says}
-use Rattle.sw_text.specs.FaultTexts.{fault_text}
+use Rattle.sw_app.specs.CheckAnswers.{AreShownDeadlockFree, IsShownDeadlockFree}
+use Rattle.sw_app.specs.declared.decide_finding.DecideFinding.{DecideFinding}
+use Rattle.sw_app.specs.declared.report_finding.ReportFinding.{ReportFinding}
+use Rattle.sw_text.specs.Ends.{Answers, GivesAll}
 
 -- the flow that is not well routed, or the cycle, or the certificate in its one spelling
 abbrev pub verdict_text : Declaration → Verdict → List ℕ
@@ -42,29 +41,34 @@ verdict_words d (Misrouted i p fault) = misrouted_words d i p fault
 verdict_words d (Cyclic cycle) = cyclic_words (length cycle.channels)
 verdict_words d (Free contents) = free_words contents.numbers
 
--- of a network: the text and the status of the verdict on it
-abbrev pub IsVerdictAnswer : Declaration → Answers
-IsVerdictAnswer d text status = (v : Verdict) × IsVerdict d v × Says (verdict_text d v) (verdict_status v) text status
+-- what `decide` finds of a network: the verdict on it
+abbrev pub IsDecideFinding : Declaration → DecideFinding → Type 0
+IsDecideFinding d found = IsVerdict d found.verdict
 
--- what was found of a network, with status 0 whatever the verdict
-abbrev pub SaysFindings : Declaration → Findings → Answers
-SaysFindings d f = Says (report_text d f.places f.dependencies (verdict_words d f.verdict)) 0
+abbrev pub decide_lines : Declaration → DecideFinding → List ℕ
+decide_lines d found = verdict_text d found.verdict
 
--- of a network: what was found of it
-abbrev pub IsFindingsAnswer : Declaration → Answers
-IsFindingsAnswer d text status = (f : Findings) × AreFindings d f × SaysFindings d f text status
-
--- of a text that is a network, or of its first fault
-abbrev pub OfNetwork : (Declaration → Answers) → Result Declaration TextFault → Answers
-OfNetwork P (Ok d) text status = P d text status
-OfNetwork P (Err fault) text status = Says (line (fault_text fault ∷ [])) 3 text status
+abbrev pub decide_status : DecideFinding → ℕ
+decide_status found = verdict_status found.verdict
 
 -- of the bytes of a file
 abbrev pub IsDecideAnswer : List ℕ → Answers
-IsDecideAnswer bytes = OfNetwork IsVerdictAnswer (network_text bytes)
+IsDecideAnswer = NetworkFileInLines IsDecideFinding decide_lines decide_status
 
+-- what `report` finds of a network
+abbrev pub IsReportFinding : Declaration → ReportFinding → Type 0
+IsReportFinding d found = AreFindings d found.findings
+
+abbrev pub report_lines : Declaration → ReportFinding → List ℕ
+report_lines d found = report_text d found.findings.places found.findings.dependencies (verdict_words d found.findings.verdict)
+
+-- of the bytes of a file, with status 0 whatever the verdict
 abbrev pub IsReportAnswer : List ℕ → Answers
-IsReportAnswer bytes = OfNetwork IsFindingsAnswer (network_text bytes)
+IsReportAnswer = NetworkFileInLines IsReportFinding report_lines (λ _. 0)
+
+-- with status 0 the lines are a certificate that is accepted for the network, and that network never locks up
+abbrev pub ShowsDeadlockFree : Declaration → DecideFinding → Type 0
+ShowsDeadlockFree d found = decide_status found ≡ 0 → IsShownDeadlockFree d (decide_lines d found)
 
 -- what was written is a certificate that is accepted for the network that the bytes declare, and that network never locks up, over
 -- every run that keeps the limits on unanswered commands

@@ -1,11 +1,11 @@
 //! The text of `route`.
 ghost use Rattle.std.specs.Prelude.{◌≡◌, ◌++◌, ◌<◌, All, IfOk, length, string_bytes};
-ghost use Rattle.sw_config.specs.Entries.{wiring_of};
-ghost use Rattle.sw_app.specs.RouteTexts.{outcome_line, place_line, text_of};
+ghost use Rattle.sw_config.specs.Entries.{all_flows, wiring_of};
+ghost use Rattle.sw_app.specs.RouteTexts.{outcome_line, place_line, route_text};
 
 use std::alloc::{AllocError, Global};
 use std::fmt::Write;
-use sw_config::{Flow, Network};
+use sw_config::Network;
 use sw_flow::{Place, RouteFault};
 use sw_output::{channel_text, route_fault_text};
 
@@ -38,18 +38,19 @@ fn add_outcome(fault: Option<(Place, RouteFault)>, text: &mut String) -> Result<
     write!(text, "misrouted {channel} {deleted} {name}\n")
 }
 
-/// The flow's name, a line for each of the places, and the fault, if there is one.
+/// The flow's name, a line for each of its places, and the fault, if there is one.
 pub(crate) fn route_text(
     alloc: Global,
     network: &Network,
-    flow: &Flow,
+    flow: u16,
     places: &[Place],
     fault: Option<(Place, RouteFault)>,
 ) -> Result<String, AllocError>
-    requires { All (λ p. p.channel < length (wiring_of network.now).ends) places.now }
-    ensures { IfOk result (λ s. string_bytes s ≡ text_of network.now flow.now places.now fault) }
+    requires within { flow < length (all_flows network.now) }
+    requires places { All (λ p. p.channel < length (wiring_of network.now).ends) places.now }
+    ensures { IfOk result (λ s. string_bytes s ≡ route_text network.now flow places.now fault) }
 {
-    let name = flow.name();
+    let name = network.flow(flow).name();
     let mut text = format!(in alloc; "flow {name}\n")?;
     for place in places {
         add_place(alloc, network, *place, &mut text)?;

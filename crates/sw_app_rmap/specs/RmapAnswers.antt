@@ -1,16 +1,14 @@
 -- What `rmap` answers (this project's choice).
-use Rattle.std.specs.Prelude.{◌≡◌, ℕ, false, List, [], ◌∷◌, Result, Ok, Err}
+use Rattle.std.specs.Prelude.{◌≡◌, ℕ, false, List, [], ◌∷◌, Ok, Err, string_bytes}
 use Rattle.sw_char.specs.declared.nchar.End.TheVariants.{Eop}
 use Rattle.toml.specs.Text.{IsDocumentText}
 use Rattle.sw_config.specs.Entries.{Declaration}
-use Rattle.sw_text.specs.declared.fault.TextFault.{TextFault}
-use Rattle.sw_file.specs.Network.{network_text}
 use Rattle.sw_load.specs.Load.{LoadEntry, load_text}
-use Rattle.sw_text.specs.Ends.{Answers, Says}
-use Rattle.sw_text.specs.FaultTexts.{fault_text}
-use Rattle.sw_output.specs.Lines.{line}
-use Rattle.sw_app_rmap.specs.declared.fault.RmapFault.{RmapFault}
+use Rattle.sw_text.specs.Ends.{Answers}
 use Rattle.sw_app_rmap.specs.declared.request.Request.{Request}
+use Rattle.sw_app_rmap.specs.declared.rmap_finding.RmapFinding.{RmapFinding}
+use Rattle.sw_app_rmap.specs.declared.rmap_finding.RmapFinding.TheVariants.{Entry, Fault}
+use Rattle.sw_engine.specs.LineAnswers.{NetworkFileInLines}
 use Rattle.sw_app_rmap.specs.EntryTexts.{fault_line, load_table}
 use Rattle.sw_app_rmap.specs.Packets.{FlowPacket, packet_of}
 
@@ -23,16 +21,19 @@ pub record IsLoadText (d : Declaration) (name : List ℕ) (p : FlowPacket) (text
   pub is_written : IsDocumentText false (load_table name p.cargo) text
   pub reads_back : load_text d text ≡ Ok (load_of p)
 
--- of a packet, or of the first fault
-abbrev pub IsPacketAnswer : Declaration → List ℕ → Result FlowPacket RmapFault → Answers
-IsPacketAnswer d name (Ok p) text status = IsLoadText d name p text × (status ≡ 0)
-IsPacketAnswer d name (Err fault) text status = Says (fault_line fault) 3 text status
+-- what is found of a network: the text of the packet's entry, or why there is no such packet
+abbrev pub IsRmapFinding : Request → Declaration → RmapFinding → Type 0
+IsRmapFinding r d (Entry text) = (p : FlowPacket) × (packet_of d r ≡ Ok p) × IsLoadText d r.flow.now p (string_bytes text)
+IsRmapFinding r d (Fault fault) = packet_of d r ≡ Err fault
 
--- of a text that is a network, or of its first fault
-abbrev pub IsReadAnswer : Request → Result Declaration TextFault → Answers
-IsReadAnswer r (Ok d) text status = IsPacketAnswer d r.flow.now (packet_of d r) text status
-IsReadAnswer r (Err fault) text status = Says (line (fault_text fault ∷ [])) 3 text status
+abbrev pub rmap_lines : RmapFinding → List ℕ
+rmap_lines (Entry text) = string_bytes text
+rmap_lines (Fault fault) = fault_line fault
+
+abbrev pub rmap_status : RmapFinding → ℕ
+rmap_status (Entry text) = 0
+rmap_status (Fault fault) = 3
 
 -- of the bytes of a file
 abbrev pub IsRmapAnswer : Request → List ℕ → Answers
-IsRmapAnswer r bytes = IsReadAnswer r (network_text bytes)
+IsRmapAnswer r = NetworkFileInLines (IsRmapFinding r) (λ d found. rmap_lines found) rmap_status

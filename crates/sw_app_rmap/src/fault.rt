@@ -7,7 +7,7 @@ use std::alloc::AllocError;
 
 /// Why a flow has no such packet.
 #[derive(Clone, Copy)]
-pub(crate) enum RmapFault {
+pub enum RmapFault {
     /// No declared flow has that name.
     UnknownFlow,
     /// The word is no number of at most 40 bits.

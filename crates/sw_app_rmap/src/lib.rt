@@ -1,7 +1,6 @@
-//! The engine of `swcheck rmap`: it prints the entry of a load that brings a flow's target an RMAP command.
+//! What `rmap` finds, the entry of a load that brings a flow's target an RMAP command, and its engine.
 #![tactic(auto)]
 
-mod engine;
 mod entry_texts;
 mod fault;
 mod flow_command;
@@ -9,8 +8,9 @@ pub mod laws;
 mod order;
 mod packet;
 mod request;
-mod rmap_answer;
+mod rmap_finding;
 mod words;
 
-pub use engine::rmap;
+pub use fault::RmapFault;
 pub use request::{Access, Request};
+pub use rmap_finding::{RmapFinding, rmap};

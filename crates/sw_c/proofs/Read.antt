@@ -7,8 +7,13 @@ use Rattle.sw_text.specs.Ends.{Answers, AnswersBy, AnswersByTwo, AnswersToTwo, E
 use Rattle.sw_text.specs.declared.write_answer.Ended.{Ended}
 use Rattle.sw_text.specs.declared.write_answer.Ended.TheVariants.{Status, ReadFailed, WriteFailed}
 use Rattle.sw_app.specs.CheckAnswers.{AreShownDeadlockFree, ChecksDeadlockFree}
-use Rattle.sw_app.specs.VerdictAnswers.{DecidesDeadlockFree}
-use Rattle.sw_json_verdicts.specs.Answering.{AnswersByOne, AnswersToOne, EndsByOneFile, EndsByTwoFiles, memory_text}
+use Rattle.sw_app.specs.VerdictAnswers.{DecidesDeadlockFree, IsReportAnswer, IsReportFinding, report_lines}
+use Rattle.sw_engine.proofs.LineEnds.{in_lines, memory_line, network_file_in_lines}
+use Rattle.sw_engine.specs.Engines.{AnswersByOne, AnswersInForm, AnswersToOne, EndsByOne}
+use Rattle.sw_json.proofs.ObjectEnds.{fault_told, finding_told, long_told, network_file_as_object}
+use Rattle.sw_json_verdicts.specs.Release.{Release}
+use Rattle.sw_json_verdicts.specs.ReportResults.{IsReportJson, found_value}
+use Rattle.sw_json_verdicts.specs.Answering.{EndsByTwoFiles, memory_text}
 use Rattle.sw_json_verdicts.specs.Answering as objects
 use Rattle.sw_c.specs.Given.{IsEnded, IsGiven, IsGivenSuch, IsObjectEnded, IsObjectGiven}
 
@@ -81,6 +86,14 @@ read_all bytes given rest (all, end) = sym (append-nil given) ∙ ap (λ (r : Li
 moved : (Q : Answers) (text told : List ℕ) (number status : ℕ) → text ≡ told → number ≡ status → Q text number → Q told status
 moved Q text told number status same equal may = subst (λ (s : ℕ). Q told s) equal (subst (λ (t : List ℕ). Q t number) same may)
 
+-- the answers of `report` in an object, by what it finds
+abbrev report_in_object : List ℕ → Release → AnswersToOne
+report_in_object path release =
+    AnswersInForm IsReportFinding
+    (finding_told IsReportFinding (λ d found. found_value d found.findings) (λ _. 0) (codes "report") path release)
+    (fault_told IsReportFinding (λ d found. found_value d found.findings) (λ _. 0) (codes "report") path release)
+    (long_told IsReportFinding (λ d found. found_value d found.findings) (λ _. 0) (codes "report") path release)
+
 module _ (old text told room new : List ℕ) (count status : ℕ) (none : old ≡ []) (same : told ≡ text) where
   -- the text that was added to nothing
   whole : (added : List ℕ) → text ≡ old ++ added → added ≡ told
@@ -112,7 +125,7 @@ module _ (old text told room new : List ℕ) (count status : ℕ) (none : old �
   object_told P ReadFailed ends is = (memory_text, inr (refl, is.0), is.1)
   object_told P WriteFailed ends is = (memory_text, inr (refl, is.0), is.1)
 
-  pub object_of_one : (P : AnswersToOne) (bytes rest : List ℕ) (ended : Ended) → EndsByOneFile P (Some bytes) (Some rest) (Some old) (Some text) ended
+  pub object_of_one : (P : AnswersToOne) (bytes rest : List ℕ) (ended : Ended) → EndsByOne memory_text P (Some bytes) (Some rest) (Some old) (Some text) ended
       → IsObjectEnded ended told room new count status → IsObjectGiven (P (limited bytes)) room new count status
   object_of_one P bytes rest (Status n) ends is = (
     told,
@@ -133,6 +146,24 @@ module _ (old text told room new : List ℕ) (count status : ℕ) (none : old �
   )
   object_of_two P first first_rest second second_rest ReadFailed ends is = (memory_text, inr (refl, is.0), is.1)
   object_of_two P first first_rest second second_rest WriteFailed ends is = (memory_text, inr (refl, is.0), is.1)
+
+  -- ---- of `report`
+
+  pub report_given : (bytes rest : List ℕ) (ended : Ended)
+      → EndsByOne memory_line (in_lines IsReportFinding report_lines (λ _. 0)) (Some bytes) (Some rest) (Some old) (Some text) ended
+      → IsEnded ended told room new count status → IsGiven (IfShort bytes (IsReportAnswer bytes)) room new count status
+  report_given bytes rest ended ends is =
+      given_one IsReportAnswer bytes rest ended
+      (network_file_in_lines IsReportFinding report_lines (λ _. 0) (Some bytes) (Some rest) (Some old) (Some text) ended ends) is
+
+  -- as an object, of the file of that path
+  pub report_object_given : (path : List ℕ) (release : Release) (bytes rest : List ℕ) (ended : Ended)
+      → EndsByOne memory_text (report_in_object path release) (Some bytes) (Some rest) (Some old) (Some text) ended
+      → IsObjectEnded ended told room new count status → IsObjectGiven (IsReportJson path release (limited bytes)) room new count status
+  report_object_given path release bytes rest ended ends is =
+      object_of_one (IsReportJson path release) bytes rest ended
+      (network_file_as_object IsReportFinding (λ d found. found_value d found.findings) (λ _. 0) (codes "report") path release
+      (Some bytes) (Some rest) (Some old) (Some text) ended ends) is
 
   pub object_ended_well : (ended : Ended) → IsObjectEnded ended told room new count status → status ≡ 0 → ended ≡ Status 0
   object_ended_well (Status n) is zero = ap Status (sym is.0 ∙ zero)

@@ -8,6 +8,7 @@ ghost use Rattle.sw_c.specs.Given.{IsGiven, IsGivenSuch};
 use crate::answers::give_ended;
 use std::alloc::Global;
 use sw_app::{check, decide, report};
+use sw_engine::Lines;
 use sw_graph::OneByOne;
 
 /// The verdict on the bytes of a network file: 0 with a certificate, and then the network never locks up, over every run; 1 with a cycle
@@ -26,7 +27,7 @@ pub extern "C" fn swcheck_decide(
 {
     let mut reader = network;
     let mut text = Vec::new(alloc);
-    let ended = decide(&OneByOne, alloc, &mut reader, &mut text);
+    let ended = decide(&OneByOne, alloc, &mut reader, &mut text).into_ended();
     give_ended(ended, &text, answer, length)
 }
 
@@ -67,6 +68,6 @@ pub extern "C" fn swcheck_report(
 {
     let mut reader = network;
     let mut text = Vec::new(alloc);
-    let ended = report(&OneByOne, alloc, &mut reader, &mut text);
+    let ended = report(&OneByOne, alloc, &mut reader, &Lines, &mut text).into_ended();
     give_ended(ended, &text, answer, length)
 }

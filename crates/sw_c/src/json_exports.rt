@@ -6,9 +6,10 @@ ghost use Rattle.sw_c.specs.Objects.{IsCheckGiven, IsDecideGiven, IsReportGiven}
 use crate::answers::give_object;
 use crate::at_hand::AtHand;
 use std::alloc::Global;
+use sw_app::report;
 use sw_args::{TOOLCHAIN, VERSION};
 use sw_graph::OneByOne;
-use sw_json_verdicts::{AuditOptions, Release, audit_one, check, report};
+use sw_json_verdicts::{AuditOptions, Release, VerdictObject, audit_one, check};
 
 // This release, and the toolchain that makes it.
 const RELEASE: Release<'static> = Release {
@@ -86,6 +87,10 @@ pub extern "C" fn swcheck_report_json(
 {
     let mut reader = network;
     let mut text = Vec::new(alloc);
-    let ended = report(&OneByOne, alloc, &mut reader, "network", RELEASE, &mut text);
+    let form = VerdictObject {
+        path: "network",
+        release: RELEASE,
+    };
+    let ended = report(&OneByOne, alloc, &mut reader, &form, &mut text).into_ended();
     give_object(ended, &text, answer, length)
 }

@@ -3,6 +3,8 @@ use Rattle.std.specs.Prelude.{◌≡◌, ℕ, List, Option, Some, None}
 use Rattle.sw_text.specs.declared.write_answer.Ended.{Ended}
 use Rattle.sw_text.specs.declared.write_answer.Ended.TheVariants.{Status}
 use Rattle.sw_text.specs.Ends.{Answers, AnswersToTwo, EndsBy, EndsByTwo, IsTold}
+use Rattle.sw_engine.specs.Files.{IsFileRead}
+use Rattle.sw_engine.specs.declared.network_file.NetworkFile.{NetworkFile}
 use Rattle.sw_app.specs.CheckAnswers.{ChecksDeadlockFree}
 use Rattle.sw_app.specs.VerdictAnswers.{DecidesDeadlockFree}
 use Rattle.sw_app.specs.Samples.{sample_text}
@@ -12,7 +14,12 @@ use Rattle.sw_app.specs.declared.samples.Sample.{Sample}
 abbrev pub EndsByFile : (List ℕ → Answers) → Option (List ℕ) → Option (List ℕ) → Ended → Type 0
 EndsByFile P old new ended = (before : Option (List ℕ)) × (after : Option (List ℕ)) × EndsBy P before after old new ended
 
--- the same of two readers
+-- the same of a network file, and what was read of it by the same reader
+abbrev pub EndsByNetworkFile : (List ℕ → Answers) → NetworkFile → Option (List ℕ) → Option (List ℕ) → Ended → Type 0
+EndsByNetworkFile P file old new ended =
+    (before : Option (List ℕ)) × (after : Option (List ℕ)) × EndsBy P before after old new ended × IsFileRead before after file
+
+-- an answer to what two readers may give was told, or a read failed
 abbrev pub EndsByFiles : AnswersToTwo → Option (List ℕ) → Option (List ℕ) → Ended → Type 0
 EndsByFiles P old new ended =
     (first : Option (List ℕ)) × (first_after : Option (List ℕ)) × (second : Option (List ℕ)) × (second_after : Option (List ℕ))

@@ -1,21 +1,24 @@
 //! The calls of the engines of `sw_app` on files.
 ghost use Rattle.std.specs.Prelude.{◌≡◌, option_map};
 ghost use Rattle.sw_app.specs.CheckAnswers.{IsCheckAnswer};
-ghost use Rattle.sw_app.specs.Kept.{Keeping};
 ghost use Rattle.sw_app.specs.MigrateAnswers.{IsMigrateAnswer};
-ghost use Rattle.sw_app.specs.RouteAnswers.{IsRouteAnswer};
+ghost use Rattle.sw_app.specs.RouteAnswers.{IsRouteAnswer, IsRouteFinding, route_lines, route_status};
 ghost use Rattle.sw_app.specs.Samples.{sample_named};
-ghost use Rattle.sw_app.specs.VerdictAnswers.{IsDecideAnswer, IsReportAnswer};
-ghost use Rattle.sw_calls.specs.Files.{ChecksFilesDeadlockFree, DecidesFileDeadlockFree, EndsByFile, EndsBySample, EndsByFiles};
+ghost use Rattle.sw_app.specs.VerdictAnswers.{IsDecideAnswer, IsDecideFinding, IsReportAnswer, IsReportFinding, decide_lines, decide_status, report_lines};
+ghost use Rattle.sw_calls.specs.Files.{ChecksFilesDeadlockFree, DecidesFileDeadlockFree, EndsByFile, EndsByFiles, EndsByNetworkFile, EndsBySample};
+ghost use Rattle.sw_engine.specs.Files.{network_of};
+ghost use Rattle.sw_engine.specs.LineAnswers.{IsFileToldInLines};
+ghost use Rattle.sw_engine.specs.Tellings.{HoldsOfFound};
 
 use crate::told::tell_refused;
 use std::fs;
 use std::io::Write;
 use std::rt::Files;
 use sw_app::{
-    EndedWith, VerdictWorkers, check, decide_keeping, init, migrate, report_keeping, route,
-    sample_named,
+    DecideFinding, ReportFinding, RouteFinding, VerdictWorkers, check, decide, init, migrate,
+    report, route, sample_named,
 };
+use sw_engine::{CommandEnd, Lines};
 use sw_text::Ended;
 
 /// The places of a flow of a network file.
@@ -24,46 +27,50 @@ pub fn route_file<R: Files + AllocGlobal, W: Write>(
     file: &str,
     flow: &str,
     writer: &mut W,
-) -> Ended
-    ensures { EndsByFile (IsRouteAnswer flow.now) (W.contents writer.old) (W.contents writer.new) result }
+) -> CommandEnd<RouteFinding>
+    ensures read { EndsByNetworkFile (IsRouteAnswer flow.now) result.file (W.contents writer.old) (W.contents writer.new) result.ended }
+    ensures found { HoldsOfFound (IsRouteFinding flow.now) (network_of result.file) result.found }
+    ensures told { IsFileToldInLines route_lines route_status result.file result.found (W.contents writer.old) (W.contents writer.new) result.ended }
 {
     let Ok(mut reader) = fs::open(rt, file) else {
-        return Ended::ReadFailed;
+        return CommandEnd::of_unread();
     };
-    route(rt.alloc(), &mut reader, flow, writer)
+    route(rt.alloc(), &mut reader, flow, &Lines, writer)
 }
 
-/// The verdict on a network file. The network is handed on where its text has at most `most` bytes.
+/// The verdict on a network file.
 pub fn decide_file<R: Files + AllocGlobal, C: VerdictWorkers, W: Write>(
     rt: &R,
     workers: &C,
     file: &str,
-    most: usize,
     writer: &mut W,
-) -> EndedWith
-    ensures answer { EndsByFile (Keeping most result.network IsDecideAnswer) (W.contents writer.old) (W.contents writer.new) result.ended }
+) -> CommandEnd<DecideFinding>
+    ensures read { EndsByNetworkFile IsDecideAnswer result.file (W.contents writer.old) (W.contents writer.new) result.ended }
+    ensures found { HoldsOfFound IsDecideFinding (network_of result.file) result.found }
+    ensures told { IsFileToldInLines decide_lines decide_status result.file result.found (W.contents writer.old) (W.contents writer.new) result.ended }
     ensures deadlock_free { DecidesFileDeadlockFree (W.contents writer.old) (W.contents writer.new) result.ended }
 {
     let Ok(mut reader) = fs::open(rt, file) else {
-        return EndedWith::without_network(Ended::ReadFailed);
+        return CommandEnd::of_unread();
     };
-    decide_keeping(workers, rt.alloc(), &mut reader, most, writer)
+    decide(workers, rt.alloc(), &mut reader, writer)
 }
 
-/// How many parts the network of a file has, and the verdict on it. The network is handed on where its text has at most `most` bytes.
+/// How many parts the network of a file has, and the verdict on it.
 pub fn report_file<R: Files + AllocGlobal, C: VerdictWorkers, W: Write>(
     rt: &R,
     workers: &C,
     file: &str,
-    most: usize,
     writer: &mut W,
-) -> EndedWith
-    ensures { EndsByFile (Keeping most result.network IsReportAnswer) (W.contents writer.old) (W.contents writer.new) result.ended }
+) -> CommandEnd<ReportFinding>
+    ensures read { EndsByNetworkFile IsReportAnswer result.file (W.contents writer.old) (W.contents writer.new) result.ended }
+    ensures found { HoldsOfFound IsReportFinding (network_of result.file) result.found }
+    ensures told { IsFileToldInLines report_lines (λ _. 0) result.file result.found (W.contents writer.old) (W.contents writer.new) result.ended }
 {
     let Ok(mut reader) = fs::open(rt, file) else {
-        return EndedWith::without_network(Ended::ReadFailed);
+        return CommandEnd::of_unread();
     };
-    report_keeping(workers, rt.alloc(), &mut reader, most, writer)
+    report(workers, rt.alloc(), &mut reader, &Lines, writer)
 }
 
 /// Whether the certificate of the second file is accepted for the network of the first.

@@ -62,13 +62,9 @@ fn run_call<R: Files + Eprint + AllocGlobal, C: VerdictWorkers, W: Write>(
             file,
             flow,
             json: false,
-        } => route_file(rt, file, flow, writer),
-        Call::Decide { file, json: false } => decide_file(
-            rt, workers, file, 0, writer,
-        ).into_ended(),
-        Call::Report { file, json: false } => report_file(
-            rt, workers, file, 0, writer,
-        ).into_ended(),
+        } => route_file(rt, file, flow, writer).into_ended(),
+        Call::Decide { file, json: false } => decide_file(rt, workers, file, writer).into_ended(),
+        Call::Report { file, json: false } => report_file(rt, workers, file, writer).into_ended(),
         Call::Check {
             file,
             certificate,

@@ -1,5 +1,5 @@
 //! What `margin` finds, and its engine.
-ghost use Rattle.std.specs.Prelude.{◌≡◌, IfOk, codes};
+ghost use Rattle.std.specs.Prelude.{◌≡◌, IfOk, codes, string_bytes};
 ghost use Rattle.serde_json.specs.View.{view};
 ghost use Rattle.sw_engine.specs.Engines.{AnswersInForm, EndsByOne};
 ghost use Rattle.sw_engine.specs.Files.{IsFileRead, network_of};
@@ -43,14 +43,9 @@ impl Finding for MarginFinding {
 impl AsLines for MarginFinding {
     ghost lines_of = { margin_lines };
 
-    fn lines(&self, alloc: Global, network: &Network) -> Result<String, AllocError> {
-        match self {
-            MarginFinding::NotFree(Verdict::Misrouted(flow, place, fault)) => {
-                misrouted_text(alloc, network, *flow, *place, *fault)
-            }
-            MarginFinding::NotFree(_) => String::from_str(alloc, "not free\n"),
-            MarginFinding::Free(found) => margin_text(alloc, network, found),
-        }
+    fn lines(&self, alloc: Global, network: &Network) -> Result<Vec<u8>, AllocError> {
+        let text = self.text(alloc, network)?;
+        Ok(text.into_bytes())
     }
 }
 
@@ -75,6 +70,20 @@ impl AsValue for MarginFinding {
 }
 
 impl MarginFinding {
+    // That the network is not free, or the flow that is not well routed; else what it stands.
+    fn text(&self, alloc: Global, network: &Network) -> Result<String, AllocError>
+        requires { IsMarginFinding network.now self.now }
+        ensures { IfOk result (λ text. string_bytes text ≡ margin_lines network.now self.now) }
+    {
+        match self {
+            MarginFinding::NotFree(Verdict::Misrouted(flow, place, fault)) => {
+                misrouted_text(alloc, network, *flow, *place, *fault)
+            }
+            MarginFinding::NotFree(_) => String::from_str(alloc, "not free\n"),
+            MarginFinding::Free(found) => margin_text(alloc, network, found),
+        }
+    }
+
     // The verdict, where the network is not free; else what it stands.
     fn value(&self, alloc: Global, network: &Network) -> Result<Value, AllocError>
         requires { IsMarginFinding network.now self.now }

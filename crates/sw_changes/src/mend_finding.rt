@@ -32,8 +32,9 @@ impl Finding for Mending {
 impl AsLines for Mending {
     ghost lines_of = { mending_text };
 
-    fn lines(&self, alloc: Global, network: &Network) -> Result<String, AllocError> {
-        mending_text(alloc, network, self)
+    fn lines(&self, alloc: Global, network: &Network) -> Result<Vec<u8>, AllocError> {
+        let text = mending_text(alloc, network, self)?;
+        Ok(text.into_bytes())
     }
 }
 

@@ -1,10 +1,10 @@
 -- What an engine has done that told what was found of a network file.
 use Rattle.std.proofs.Common.{◌≡◌, ◌⊎◌, ℕ, List, inl, inr, refl, subst, sym}
-use Rattle.std.specs.Prelude.{Err, IfOk, None, Ok, Option, Result, Some, string_bytes}
+use Rattle.std.specs.Prelude.{Err, IfOk, None, Ok, Option, Result, Some}
 use Rattle.std.specs.declared.alloc.AllocError.{AllocError}
 use Rattle.sw_config.specs.Entries.{Declaration}
 use Rattle.sw_file.specs.Network.{network_text}
-use Rattle.sw_text.specs.declared.answer.Answer.{Answer}
+use Rattle.sw_text.specs.declared.answer.ByteAnswer.{ByteAnswer}
 use Rattle.sw_text.specs.declared.fault.TextFault.{TextFault}
 use Rattle.sw_text.specs.declared.write_answer.Ended.{Ended}
 use Rattle.sw_text.specs.declared.write_answer.Ended.TheVariants as ended
@@ -17,14 +17,14 @@ use Rattle.sw_engine.specs.declared.network_file.NetworkFile.TheVariants.{Networ
 
 -- ---- told
 
-told_or : (memory : List ℕ) (P : Answers) (answer : Result Answer AllocError) (old new : Option (List ℕ)) (end : Ended)
-    → IfOk answer (λ a. P (string_bytes a.text) a.status) → IsAnswerTold memory answer old new end → TellsOr memory P old new end
-told_or memory P (Ok a) old new end met is = (string_bytes a.text, a.status, inl met, is)
+told_or : (memory : List ℕ) (P : Answers) (answer : Result ByteAnswer AllocError) (old new : Option (List ℕ)) (end : Ended)
+    → IfOk answer (λ a. P (a.text.items) a.status) → IsAnswerTold memory answer old new end → TellsOr memory P old new end
+told_or memory P (Ok a) old new end met is = (a.text.items, a.status, inl met, is)
 told_or memory P (Err none) old new end met is = (memory, 5, inr (refl, refl), is)
 
 -- what was told of a file that was read
-pub told_of_file : (memory : List ℕ) (P : Answers) (file : NetworkFile) (answer : Result Answer AllocError) (old new : Option (List ℕ)) (end : Ended)
-    → (file ≡ Unread → ⊥) → IfOk answer (λ a. P (string_bytes a.text) a.status) → IsAnswerTold memory answer old new end
+pub told_of_file : (memory : List ℕ) (P : Answers) (file : NetworkFile) (answer : Result ByteAnswer AllocError) (old new : Option (List ℕ)) (end : Ended)
+    → (file ≡ Unread → ⊥) → IfOk answer (λ a. P (a.text.items) a.status) → IsAnswerTold memory answer old new end
     → IsFileTold memory P file old new end
 told_of_file memory P (Network text network) answer old new end read met is = told_or memory P answer old new end met is
 told_of_file memory P (Faulty text fault) answer old new end read met is = told_or memory P answer old new end met is

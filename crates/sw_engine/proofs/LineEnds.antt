@@ -10,10 +10,10 @@ use Rattle.sw_file.specs.Network.{network_text}
 use Rattle.sw_text.specs.declared.fault.TextFault.{TextFault}
 use Rattle.sw_engine.specs.Engines.{AnswersByOne, AnswersToNetworkFile, AnswersToOne, AnswersToRead, EndsByOne}
 use Rattle.sw_engine.specs.Files.{IsFileRead, network_of}
-use Rattle.sw_engine.specs.Tellings.{AnswersToFile, Findings, HoldsOfFound, IsFileTold}
+use Rattle.sw_engine.specs.Tellings.{Findings, HoldsOfFound}
 use Rattle.sw_engine.specs.declared.network_file.NetworkFile.{NetworkFile}
 use Rattle.sw_engine.proofs.Answered.{ends_by_file}
-use Rattle.sw_engine.specs.LineAnswers.{FaultInLine, FindingInLines, NetworkFileInLines}
+use Rattle.sw_engine.specs.LineAnswers.{FaultInLine, FindingInLines, IsFileToldInLines, NetworkFileInLines}
 
 -- the line for want of memory
 abbrev pub memory_line : List ℕ
@@ -85,10 +85,7 @@ module _ {X : Type 0} (Finds : Declaration → X → Type 0) (lines : Declaratio
 pub ends_in_lines : {X : Type 0} (Finds : Declaration → X → Type 0) (lines : Declaration → X → List ℕ) (number : X → ℕ)
     (before after old new : Option (List ℕ)) (file : NetworkFile) (findings : Findings X) (ended : Ended) → IsFileRead before after file
     → HoldsOfFound Finds (network_of file) findings
-    → IsFileTold memory_line
-    (AnswersToFile (λ _ d found. Says (lines d found) (number found)) (λ _ fault. FaultInLine fault) (Says (line (codes "fault A1 TooLong" ∷ [])) 3) file findings)
-    file old new ended
-    → EndsBy (NetworkFileInLines Finds lines number) before after old new ended
+    → IsFileToldInLines lines number file findings old new ended → EndsBy (NetworkFileInLines Finds lines number) before after old new ended
 ends_in_lines Finds lines number before after old new file findings ended read holds told =
     network_file_in_lines Finds lines number before after old new ended
     (ends_by_file Finds (λ _ d found. Says (lines d found) (number found)) (λ _ fault. FaultInLine fault) (Says (line (codes "fault A1 TooLong" ∷ [])) 3) memory_line

@@ -1,10 +1,10 @@
 -- What is told of a network file and of what was found of its network (this project's choice).
-use Rattle.std.specs.Prelude.{◌≡◌, ◌⊎◌, ℕ, List, Option, Some, None, Result, Ok, Err, IfOk, IfSome, string_bytes}
+use Rattle.std.specs.Prelude.{◌≡◌, ◌⊎◌, ℕ, List, Option, Some, None, Result, Ok, Err, IfOk, IfSome}
 use Rattle.std.specs.Io.KnownBytes.{Keeps}
 use Rattle.std.specs.declared.alloc.AllocError.{AllocError}
 use Rattle.sw_config.specs.Entries.{Declaration}
 use Rattle.sw_text.specs.Ends.{Answers, IsTold, Says}
-use Rattle.sw_text.specs.declared.answer.Answer.{Answer}
+use Rattle.sw_text.specs.declared.answer.ByteAnswer.{ByteAnswer}
 use Rattle.sw_text.specs.declared.fault.TextFault.{TextFault}
 use Rattle.sw_text.specs.declared.write_answer.Ended.{Ended}
 use Rattle.sw_text.specs.declared.write_answer.Ended.TheVariants.{ReadFailed}
@@ -49,6 +49,6 @@ IsFileTold memory P Unread old new ended = (ended ≡ ReadFailed) × Keeps old n
 IsFileTold memory P file old new ended = TellsOr memory P old new ended
 
 -- the answer was told, or the line for want of memory
-abbrev pub IsAnswerTold : List ℕ → Result Answer AllocError → Option (List ℕ) → Option (List ℕ) → Ended → Type 0
-IsAnswerTold memory (Ok answer) old new ended = IsTold old new (string_bytes answer.text) answer.status ended
+abbrev pub IsAnswerTold : List ℕ → Result ByteAnswer AllocError → Option (List ℕ) → Option (List ℕ) → Ended → Type 0
+IsAnswerTold memory (Ok answer) old new ended = IsTold old new answer.text.items answer.status ended
 IsAnswerTold memory (Err none) old new ended = IsTold old new memory 5 ended

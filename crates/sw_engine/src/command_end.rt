@@ -1,5 +1,5 @@
 //! How a command ended, with what it read and found.
-ghost use Rattle.std.specs.Prelude.{◌≡◌};
+ghost use Rattle.std.specs.Prelude.{◌≡◌, None};
 
 use crate::network_file::NetworkFile;
 use std::alloc::AllocError;
@@ -17,6 +17,19 @@ pub struct CommandEnd<X> {
 }
 
 impl<X: Drop> CommandEnd<X> {
+    /// The end of a command whose file can't be opened.
+    pub fn of_unread() -> CommandEnd<X>
+        ensures ended { result.ended ≡ Ended.ReadFailed }
+        ensures file { result.file ≡ NetworkFile.Unread }
+        ensures found { result.found ≡ None }
+    {
+        CommandEnd {
+            ended: Ended::ReadFailed,
+            file: NetworkFile::Unread,
+            found: None,
+        }
+    }
+
     /// How it ended, alone.
     pub fn into_ended(self) -> Ended
         ensures { result ≡ self.ended }

@@ -1,5 +1,5 @@
 //! In which form a command's answer is told.
-ghost use Rattle.std.specs.Prelude.{ℕ, List, IfOk, string_bytes};
+ghost use Rattle.std.specs.Prelude.{ℕ, List, IfOk};
 ghost use Rattle.sw_config.specs.Entries.{Declaration};
 ghost use Rattle.sw_text.specs.Ends.{Answers, IsTold};
 ghost use Rattle.sw_text.specs.declared.fault.TextFault.{TextFault};
@@ -8,7 +8,7 @@ use crate::finding::Finding;
 use std::alloc::{AllocError, Global};
 use std::io::Write;
 use sw_config::Network;
-use sw_text::{Answer, Ended, TextFault};
+use sw_text::{ByteAnswer, Ended, TextFault};
 
 /// A form in which it is told what a command found, as lines or as one object.
 pub trait Form<X: Finding> {
@@ -29,16 +29,21 @@ pub trait Form<X: Finding> {
     /// # Errors
     ///
     /// There is no memory for it.
-    fn long(&self, alloc: Global) -> Result<Answer, AllocError>
-        ensures { IfOk result (λ answer. long self.now (string_bytes answer.text) answer.status) };
+    fn long(&self, alloc: Global) -> Result<ByteAnswer, AllocError>
+        ensures { IfOk result (λ answer. long self.now (answer.text.items) answer.status) };
 
     /// What answers a text that has this fault.
     ///
     /// # Errors
     ///
     /// There is no memory for it.
-    fn faulty(&self, alloc: Global, text: &[u8], fault: &TextFault) -> Result<Answer, AllocError>
-        ensures { IfOk result (λ answer. faulty self.now text.now fault.now (string_bytes answer.text) answer.status) };
+    fn faulty(
+        &self,
+        alloc: Global,
+        text: &[u8],
+        fault: &TextFault,
+    ) -> Result<ByteAnswer, AllocError>
+        ensures { IfOk result (λ answer. faulty self.now text.now fault.now (answer.text.items) answer.status) };
 
     /// What answers the text of a network of which this was found.
     ///
@@ -51,7 +56,7 @@ pub trait Form<X: Finding> {
         text: &[u8],
         network: &Network,
         found: &X,
-    ) -> Result<Answer, AllocError>
+    ) -> Result<ByteAnswer, AllocError>
         requires { X.Finding.is_of network.now found.now }
-        ensures { IfOk result (λ answer. tells self.now text.now network.now found.now (string_bytes answer.text) answer.status) };
+        ensures { IfOk result (λ answer. tells self.now text.now network.now found.now (answer.text.items) answer.status) };
 }

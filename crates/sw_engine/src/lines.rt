@@ -1,5 +1,5 @@
 //! Answers as lines of text.
-ghost use Rattle.std.specs.Prelude.{◌≡◌, ◌∷◌, [], ℕ, List, IfOk, codes, string_bytes};
+ghost use Rattle.std.specs.Prelude.{◌≡◌, ◌∷◌, [], ℕ, List, IfOk, codes};
 ghost use Rattle.sw_config.specs.Entries.{Declaration};
 ghost use Rattle.sw_text.specs.Ends.{Says};
 ghost use Rattle.sw_text.specs.FaultTexts.{fault_text};
@@ -10,7 +10,7 @@ use crate::form::Form;
 use std::alloc::{AllocError, Global};
 use std::io::Write;
 use sw_config::Network;
-use sw_text::{Answer, Ended, TextFault, tell_memory};
+use sw_text::{Answer, ByteAnswer, Ended, TextFault, tell_memory};
 
 /// What was found of a network, where it can be told as lines.
 pub trait AsLines: Finding {
@@ -21,9 +21,9 @@ pub trait AsLines: Finding {
     /// # Errors
     ///
     /// There is no memory for them.
-    fn lines(&self, alloc: Global, network: &Network) -> Result<String, AllocError>
+    fn lines(&self, alloc: Global, network: &Network) -> Result<Vec<u8>, AllocError>
         requires { Self.Finding.is_of network.now self.now }
-        ensures { IfOk result (λ text. string_bytes text ≡ lines_of network.now self.now) };
+        ensures { IfOk result (λ text. text.items ≡ lines_of network.now self.now) };
 }
 
 /// The form of answers that are lines of text.
@@ -43,12 +43,17 @@ impl<X: AsLines> Form<X> for Lines {
         tell_memory(writer)
     }
 
-    fn long(&self, alloc: Global) -> Result<Answer, AllocError> {
-        Answer::of_long_text(alloc)
+    fn long(&self, alloc: Global) -> Result<ByteAnswer, AllocError> {
+        Ok(Answer::of_long_text(alloc)?.into_bytes())
     }
 
-    fn faulty(&self, alloc: Global, _text: &[u8], fault: &TextFault) -> Result<Answer, AllocError> {
-        Answer::of_fault(alloc, fault)
+    fn faulty(
+        &self,
+        alloc: Global,
+        _text: &[u8],
+        fault: &TextFault,
+    ) -> Result<ByteAnswer, AllocError> {
+        Ok(Answer::of_fault(alloc, fault)?.into_bytes())
     }
 
     fn found(
@@ -57,9 +62,9 @@ impl<X: AsLines> Form<X> for Lines {
         _text: &[u8],
         network: &Network,
         found: &X,
-    ) -> Result<Answer, AllocError> {
+    ) -> Result<ByteAnswer, AllocError> {
         let text = found.lines(alloc, network)?;
         let status = found.status();
-        Ok(Answer { text, status })
+        Ok(ByteAnswer { text, status })
     }
 }

@@ -1,5 +1,5 @@
 //! A network file, and what was found of its network, are told.
-ghost use Rattle.std.specs.Prelude.{◌≡◌, IfOk, is_some, string_bytes};
+ghost use Rattle.std.specs.Prelude.{◌≡◌, IfOk, is_some};
 ghost use Rattle.sw_engine.specs.Files.{network_of};
 ghost use Rattle.sw_engine.specs.Tellings.{AnswersToFile, HoldsOfFound, IsAnswerTold, IsFileTold};
 
@@ -8,7 +8,7 @@ use crate::form::Form;
 use crate::network_file::NetworkFile;
 use std::alloc::{AllocError, Global};
 use std::io::Write;
-use sw_text::{Answer, Ended, tell};
+use sw_text::{ByteAnswer, Ended, tell_bytes};
 
 // What answers a file that was read. There is none where there was no memory.
 fn answer_to<X: Finding, F: Form<X>>(
@@ -16,9 +16,9 @@ fn answer_to<X: Finding, F: Form<X>>(
     alloc: Global,
     file: &NetworkFile,
     found: &Option<Result<X, AllocError>>,
-) -> Result<Answer, AllocError>
+) -> Result<ByteAnswer, AllocError>
     requires { HoldsOfFound X.Finding.is_of (network_of file.now) found.now }
-    ensures { IfOk result (λ answer. AnswersToFile (F.tells form.now) (F.faulty form.now) (F.long form.now) file.now found.now (string_bytes answer.text) answer.status) }
+    ensures { IfOk result (λ answer. AnswersToFile (F.tells form.now) (F.faulty form.now) (F.long form.now) file.now found.now (answer.text.items) answer.status) }
 {
     match (file, found) {
         (NetworkFile::Network { text, network }, Some(Ok(found))) => {
@@ -34,12 +34,12 @@ fn answer_to<X: Finding, F: Form<X>>(
 fn tell_answer<X: Finding, F: Form<X>, W: Write>(
     form: &F,
     writer: &mut W,
-    answer: Result<Answer, AllocError>,
+    answer: Result<ByteAnswer, AllocError>,
 ) -> Ended
     ensures { IsAnswerTold F.memory answer (W.contents writer.old) (W.contents writer.new) result }
 {
     match answer {
-        Ok(answer) => tell(writer, answer.text.as_str(), answer.status),
+        Ok(answer) => tell_bytes(writer, &answer.text, answer.status),
         Err(_) => form.tell_memory(writer),
     }
 }

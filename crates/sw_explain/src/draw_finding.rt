@@ -1,5 +1,5 @@
 //! What `draw` finds, and its engine.
-ghost use Rattle.std.specs.Prelude.{◌≡◌, IfOk};
+ghost use Rattle.std.specs.Prelude.{◌≡◌, IfOk, string_bytes};
 ghost use Rattle.sw_engine.specs.Engines.{AnswersInForm, EndsByOne};
 ghost use Rattle.sw_engine.specs.Files.{IsFileRead, network_of};
 ghost use Rattle.sw_engine.specs.Tellings.{HoldsOfFound};
@@ -53,7 +53,17 @@ impl Finding for DrawFinding {
 impl AsLines for DrawFinding {
     ghost lines_of = { draw_lines };
 
-    fn lines(&self, alloc: Global, network: &Network) -> Result<String, AllocError> {
+    fn lines(&self, alloc: Global, network: &Network) -> Result<Vec<u8>, AllocError> {
+        let text = self.text(alloc, network)?;
+        Ok(text.into_bytes())
+    }
+}
+
+impl DrawFinding {
+    // The drawing, or that no flow has the name.
+    fn text(&self, alloc: Global, network: &Network) -> Result<String, AllocError>
+        ensures { IfOk result (λ text. string_bytes text ≡ draw_lines network.now self.now) }
+    {
         match self {
             DrawFinding::UnknownFlow => {
                 String::from_str(alloc, "fault F7 UnknownName argument\n")

@@ -40,8 +40,9 @@ impl Finding for ExplainFinding {
 impl AsLines for ExplainFinding {
     ghost lines_of = { λ d f. explain_text d f.all f.explanation };
 
-    fn lines(&self, alloc: Global, network: &Network) -> Result<String, AllocError> {
-        explain_text(alloc, network, self.all, &self.explanation)
+    fn lines(&self, alloc: Global, network: &Network) -> Result<Vec<u8>, AllocError> {
+        let text = explain_text(alloc, network, self.all, &self.explanation)?;
+        Ok(text.into_bytes())
     }
 }
 

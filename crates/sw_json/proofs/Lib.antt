@@ -4,6 +4,7 @@ pub mod PlainValues
 mod PairedValues
 pub mod Answered
 pub mod PlainAnswers
+pub mod ObjectEnds
 pub mod OneObject
 pub mod OneResult
 pub mod OneVerdict

@@ -144,24 +144,6 @@ pub(crate) fn answer_to_files(
     Ok(Answer { text, status })
 }
 
-/// The answer of a command of one file, with what it found.
-///
-/// # Errors
-///
-/// There is no memory for it, or there was none for what was to be found.
-pub fn answer_to_one(
-    alloc: Global,
-    command: &str,
-    release: Release<'_>,
-    path: &str,
-    text: &InputText,
-    found: Result<CommandOutcome, AllocError>,
-) -> Result<Answer, AllocError>
-    ensures { IfOk result (λ a. IsOkAnd found (λ o. IsAnswer command.now (read_value path.now (given text.now) ∷ []) release.entry (IsCommandOutcome (view o.result) o.status) (string_bytes a.text) a.status)) }
-{
-    answer_to_files(alloc, command, release, &[(path, bytes_of(text))], found)
-}
-
 /// The answer of a command of two files, with what it found.
 ///
 /// # Errors

@@ -8,6 +8,7 @@ mod command_outcome;
 mod cycles;
 mod digests;
 mod faults;
+mod file_answers;
 mod files;
 mod inputs;
 pub mod laws;
@@ -20,14 +21,14 @@ mod texts;
 mod verdicts;
 
 pub use answering::{
-    answer_to_one, answer_to_two, file_fault, long_file, tell_answer, tell_memory, tell_unread,
-    unread_network,
+    answer_to_two, file_fault, long_file, tell_answer, tell_memory, tell_unread, unread_network,
 };
 pub use answers::{answer_value, file_fault_value};
 pub use codes::route_fault_code;
 pub use command_outcome::CommandOutcome;
 pub use digests::digest_text;
 pub use faults::{fault_value, long_value, schedule_fault_value, unknown_flow_value};
+pub use file_answers::{answer_to_faulty_file, answer_to_long_file, answer_to_network_file};
 pub use files::{Release, audit_value, bare_entry, kind_value, read_entry};
 pub use inputs::{input_value, long_input};
 pub use lists::{add_value, flow_name_values, text_values};

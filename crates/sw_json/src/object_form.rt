@@ -5,14 +5,15 @@ ghost use Rattle.serde_json.specs.View.{view};
 ghost use Rattle.sw_config.specs.Entries.{Declaration};
 ghost use Rattle.sw_json.specs.Answering.{IsAnswer, IsCommandOutcome, IsFaultyFile, IsLongFile, memory_text, read_value};
 
-use crate::answering::{answer_to_files, faulty_file, long_file, tell_memory};
+use crate::answering::tell_memory;
 use crate::command_outcome::CommandOutcome;
+use crate::file_answers::{answer_to_faulty_file, answer_to_long_file, answer_to_network_file};
 use crate::files::Release;
 use std::alloc::{AllocError, Global};
 use std::io::Write;
 use sw_config::Network;
 use sw_engine::{Finding, Form};
-use sw_text::{Answer, Ended, TextFault};
+use sw_text::{ByteAnswer, Ended, TextFault};
 
 /// What a command finds of a network, where it can be told as a value of JSON.
 pub trait AsValue: Finding {
@@ -56,26 +57,17 @@ impl<X: AsValue> Form<X> for ObjectForm<'_> {
         tell_memory(writer)
     }
 
-    fn long(&self, alloc: Global) -> Result<Answer, AllocError> {
-        let found = long_file(alloc, self.path);
-        answer_to_files(
-            alloc,
-            X::command(),
-            self.release,
-            &[(self.path, None)],
-            found,
-        )
+    fn long(&self, alloc: Global) -> Result<ByteAnswer, AllocError> {
+        answer_to_long_file(alloc, X::command(), self.release, self.path)
     }
 
-    fn faulty(&self, alloc: Global, text: &[u8], fault: &TextFault) -> Result<Answer, AllocError> {
-        let found = faulty_file(alloc, self.path, text, fault);
-        answer_to_files(
-            alloc,
-            X::command(),
-            self.release,
-            &[(self.path, Some(text))],
-            found,
-        )
+    fn faulty(
+        &self,
+        alloc: Global,
+        text: &[u8],
+        fault: &TextFault,
+    ) -> Result<ByteAnswer, AllocError> {
+        answer_to_faulty_file(alloc, X::command(), self.release, self.path, text, fault)
     }
 
     fn found(
@@ -84,14 +76,8 @@ impl<X: AsValue> Form<X> for ObjectForm<'_> {
         text: &[u8],
         network: &Network,
         found: &X,
-    ) -> Result<Answer, AllocError> {
+    ) -> Result<ByteAnswer, AllocError> {
         let found = found.outcome(alloc, network);
-        answer_to_files(
-            alloc,
-            X::command(),
-            self.release,
-            &[(self.path, Some(text))],
-            found,
-        )
+        answer_to_network_file(alloc, X::command(), self.release, self.path, text, found)
     }
 }

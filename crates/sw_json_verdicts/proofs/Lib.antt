@@ -1,8 +1,6 @@
 mod Plain
-mod RouteFound
 mod CheckFound
 mod ReportFound
-mod Kept
 mod OneAnswer
 mod StatusesOfTexts
 mod Accepted

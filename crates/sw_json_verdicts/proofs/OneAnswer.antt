@@ -1,44 +1,40 @@
 -- `route`, `check` and `report` have one answer, but for the places of faults.
-use Rattle.std.proofs.Common.{◌≡◌, ◌∙◌, ℕ, List, [], ◌∷◌, ap, find, sym}
+use Rattle.std.proofs.Common.{◌≡◌, ℕ, List, [], ◌∷◌, refl}
 use Rattle.std.specs.Prelude.{Err, None, Ok, Option, Result, Some, codes}
-use Rattle.std.specs.Str.{bytes_eq}
 use Rattle.sw_app.proofs.OneReport.{dependencies_once, places_once}
-use Rattle.sw_app.specs.RouteTexts.{outcome_status}
+use Rattle.sw_app.proofs.OneRoute.{SayTheSame, same_routes, same_status}
+use Rattle.sw_app.specs.RouteAnswers.{IsRouteFinding, route_status}
+use Rattle.sw_app.specs.VerdictAnswers.{IsReportFinding}
+use Rattle.sw_app.specs.declared.route_finding.RouteFinding.{RouteFinding}
+use Rattle.sw_app.specs.declared.route_finding.RouteFinding.TheVariants.{UnknownFlow, Found}
 use Rattle.sw_cert.specs.Reading.{State}
 use Rattle.sw_cert.specs.Text.{contents_of, read_text}
 use Rattle.sw_cert.specs.Refusals.{refusal_of}
 use Rattle.sw_cert.specs.declared.refusal.Refusal.{Refusal}
-use Rattle.sw_config.specs.Entries.{Declaration, FlowEntry, all_flows}
-use Rattle.sw_flow.specs.Faults.{first_fault_of}
-use Rattle.sw_flow.specs.declared.place.Place.{Place}
-use Rattle.sw_flow.proofs.Sorted.{same_places}
+use Rattle.sw_config.specs.Entries.{Declaration}
 use Rattle.sw_search.specs.Findings.{AreFindings}
 use Rattle.sw_search.specs.declared.verdict.Findings.{Findings}
-use Rattle.sw_json.specs.Answering.{OfFile, OfNetworkFile, read_value}
+use Rattle.sw_json.specs.Answering.{OfFile, read_value}
 use Rattle.sw_json_verdicts.specs.CheckResults.{IsCertificateResult, IsCheckResult, IsJudgement}
 use Rattle.sw_json_verdicts.specs.Laws.{CheckHasOneAnswer, ReportHasOneAnswer, RouteHasOneAnswer}
-use Rattle.sw_json_verdicts.specs.ReportResults.{IsFindingsResult, found_value, report_value}
-use Rattle.sw_json_verdicts.specs.RouteResults.{IsFlowResult, IsFoundResult, IsNamedResult, route_value}
+use Rattle.sw_json_verdicts.specs.ReportResults.{found_value, report_value}
+use Rattle.sw_json_verdicts.specs.RouteResults.{route_value, told_route}
+use Rattle.sw_json.proofs.OneObject.{one_object}
 use Rattle.sw_json.proofs.OneResult.{AreOne, one_answer, one_of_file, one_of_network_file, one_outcome}
 use Rattle.sw_json.proofs.OneVerdict.{one_verdict_value}
 
 -- ---- `route`
 
-one_flow : (d : Declaration) (f : FlowEntry) → AreOne (IsFlowResult d f)
-one_flow d f value other status number (places, is, p) (listed, also, q) =
-    let same : places ≡ listed = same_places d f places listed is also in (
-      p.1 ∙ (ap (λ (l : List Place). outcome_status (first_fault_of d f l)) same ∙ sym q.1),
-      (λ good. p.0 ∙ (ap (route_value d f) same ∙ sym q.0)),
-    )
-
-one_found : (path : List ℕ) (d : Declaration) (o : Option FlowEntry) → AreOne (IsFoundResult path d o)
-one_found path d None value other status number p q = one_outcome _ _ value other status number p q
-one_found path d (Some f) value other status number p q = one_flow d f value other status number p q
+same_value : (path : List ℕ) (d : Declaration) (x y : RouteFinding) → SayTheSame x y → route_value path d x ≡ route_value path d y
+same_value path d UnknownFlow UnknownFlow same = refl
+same_value path d UnknownFlow (Found other) same = absurd same
+same_value path d (Found route) UnknownFlow same = absurd same
+same_value path d (Found route) (Found other) (flow, places, fault) = λ t. told_route d (flow t) (places t) (fault t)
 
 pub route_has_one_answer : RouteHasOneAnswer
 route_has_one_answer path name release given =
-    one_answer (codes "route") (read_value path given ∷ []) release (OfNetworkFile path (IsNamedResult path name) given)
-    (one_of_network_file path (IsNamedResult path name) (λ d. one_found path d (find (λ (f : FlowEntry). bytes_eq name f.name) (all_flows d))) given)
+    one_object (IsRouteFinding name) (route_value path) route_status (λ d x y h k. same_status x y (same_routes name d x y h k))
+    (λ d x y h k. same_value path d x y (same_routes name d x y h k)) (codes "route") path release given
 
 -- ---- `check`
 
@@ -65,10 +61,7 @@ same_report d f g h k =
     let verdict = one_verdict_value d f.verdict g.verdict h.verdict k.verdict in
     (λ i. report_value d (places i) (dependencies i) (verdict i))
 
-one_findings : (d : Declaration) → AreOne (IsFindingsResult d)
-one_findings d value other status number (f, h, p) (g, k, q) = (p.1 ∙ sym q.1, λ good. p.0 ∙ (same_report d f g h k ∙ sym q.0))
-
 pub report_has_one_answer : ReportHasOneAnswer
 report_has_one_answer path release given =
-    one_answer (codes "report") (read_value path given ∷ []) release (OfNetworkFile path IsFindingsResult given)
-    (one_of_network_file path IsFindingsResult one_findings given)
+    one_object IsReportFinding (λ d found. found_value d found.findings) (λ _. 0) (λ d x y h k. refl)
+    (λ d x y h k. same_report d x.findings y.findings h k) (codes "report") path release given

@@ -14,7 +14,7 @@ fault_is_plain plain None = null_plain
 fault_is_plain plain (Some (p, fault)) = plain_at_more 1 2 (misrouted_fault_value p fault) (omega arith) (plain.faults p fault)
 
 pub routes_are_plain : PlacesArePlain → RoutesArePlain
-routes_are_plain plain d f places fault =
+routes_are_plain plain d flow places fault =
     object_plain 2 (with_member (fault_is_plain plain fault) (with_member text_plain (with_member text_plain
     (with_member (made_plain 1 (place_value d) (plain.places d) places) no_more))))
 

@@ -1,48 +1,39 @@
 -- The statuses are those of the text answers.
-use Rattle.std.proofs.Common.{◌≡◌, ◌∙◌, ℕ, List, ap, find, sym}
-use Rattle.std.specs.Prelude.{Err, None, Ok, Option, Result, Some}
-use Rattle.std.specs.Str.{bytes_eq}
+use Rattle.std.proofs.Common.{◌≡◌, ◌∙◌, ℕ, List, refl, sym}
+use Rattle.std.specs.Prelude.{Err, None, Ok, Option, Result, Some, codes}
 use Rattle.serde_json.specs.Data.{Data}
+use Rattle.sw_app.proofs.OneRoute.{same_routes, same_status}
 use Rattle.sw_app.specs.CheckAnswers.{IsCertificateAnswer, IsCheckAnswer, IsJudgement as IsTextJudgement, IsNetworkAnswer}
-use Rattle.sw_app.specs.RouteAnswers.{IsFoundAnswer, IsReadAnswer, IsRouteAnswer}
-use Rattle.sw_app.specs.RouteTexts.{outcome_status}
-use Rattle.sw_app.specs.VerdictAnswers.{IsFindingsAnswer, IsReportAnswer, OfNetwork as OfTextNetwork}
+use Rattle.sw_app.specs.RouteAnswers.{IsRouteAnswer, IsRouteFinding, route_lines, route_status}
+use Rattle.sw_app.specs.VerdictAnswers.{IsReportAnswer, IsReportFinding, report_lines}
+use Rattle.sw_app.specs.declared.route_finding.RouteFinding.{RouteFinding}
 use Rattle.sw_cert.specs.Reading.{State}
 use Rattle.sw_cert.specs.Text.{contents_of, read_text}
 use Rattle.sw_cert.specs.Refusals.{refusal_of}
 use Rattle.sw_cert.specs.declared.refusal.Refusal.{Refusal}
 use Rattle.sw_text.specs.Ends.{IfLimited}
-use Rattle.sw_config.specs.Entries.{Declaration, FlowEntry, all_flows}
-use Rattle.sw_file.specs.Network.{network_text}
-use Rattle.sw_flow.specs.Faults.{first_fault_of}
-use Rattle.sw_flow.specs.declared.place.Place.{Place}
-use Rattle.sw_flow.proofs.Sorted.{same_places}
 use Rattle.sw_text.specs.declared.fault.TextFault.{TextFault}
-use Rattle.sw_json.specs.Answering.{OfFile, OfNetwork, OfNetworkFile}
+use Rattle.sw_config.specs.Entries.{Declaration}
+use Rattle.sw_file.specs.Network.{network_text}
+use Rattle.sw_json.proofs.OneObject.{status_of_lines}
+use Rattle.sw_json.specs.Answering.{OfFile, OfNetwork}
+use Rattle.sw_json.specs.Laws.{HaveOneStatus}
+use Rattle.sw_json.specs.declared.files.Release.{Release}
 use Rattle.sw_json_verdicts.specs.CheckResults.{IsCertificateResult, IsCheckResult, IsJudgement}
 use Rattle.sw_json_verdicts.specs.Laws.{HaveStatusesOfTexts}
-use Rattle.sw_json_verdicts.specs.ReportResults.{IsFindingsResult}
-use Rattle.sw_json_verdicts.specs.RouteResults.{IsFoundResult, IsNamedResult}
+use Rattle.sw_json_verdicts.specs.ReportResults.{IsReportJson, found_value}
+use Rattle.sw_json_verdicts.specs.RouteResults.{IsRouteJson, route_value}
 
 -- ---- `route`
 
-of_found : (path name : List ℕ) (d : Declaration) (o : Option FlowEntry) (value : Data) (text : List ℕ) (status number : ℕ)
-    → IsFoundResult path d o value status → IsFoundAnswer d o text number → status ≡ number
-of_found path name d None value text status number p q = p.1 ∙ sym q.1
-of_found path name d (Some f) value text status number (places, is, p) (listed, also, q) =
-    let same : places ≡ listed = same_places d f places listed is also in
-    p.1 ∙ (ap (λ (l : List Place). outcome_status (first_fault_of d f l)) same ∙ sym q.1)
+-- two findings of a network have one status
+once : (name : List ℕ) (d : Declaration) (x y : RouteFinding) → IsRouteFinding name d x → IsRouteFinding name d y → route_status x ≡ route_status y
+once name d x y h k = same_status x y (same_routes name d x y h k)
 
-of_route_network : (path name bytes : List ℕ) (r : Result Declaration TextFault) (value : Data) (text : List ℕ) (status number : ℕ)
-    → OfNetwork path bytes (IsNamedResult path name) r value status → IsReadAnswer name r text number → status ≡ number
-of_route_network path name bytes (Ok d) value text status number p q =
-    of_found path name d (find (λ (f : FlowEntry). bytes_eq name f.name) (all_flows d)) value text status number p q
-of_route_network path name bytes (Err fault) value text status number (told, is, p) q = p.1 ∙ sym q.1
-
-of_route : (path name : List ℕ) (given : Option (List ℕ)) (value : Data) (text : List ℕ) (status number : ℕ)
-    → OfNetworkFile path (IsNamedResult path name) given value status → IfLimited given (IsRouteAnswer name) text number → status ≡ number
-of_route path name (Some bytes) value text status number p q = of_route_network path name bytes (network_text bytes) value text status number p q
-of_route path name None value text status number p q = p.1 ∙ sym q.1
+of_route : (path name : List ℕ) (release : Release) (given : Option (List ℕ)) → HaveOneStatus (IsRouteJson path name release given) (IfLimited given (IsRouteAnswer name))
+of_route path name release given =
+    status_of_lines (IsRouteFinding name) (route_value path) route_status (once name) (IsRouteFinding name) route_lines route_status (once name) (codes "route") path
+    release given
 
 -- ---- `check`
 
@@ -76,21 +67,16 @@ of_check path other None second value text status number p q = p.1 ∙ sym q.1
 
 -- ---- `report`
 
-of_report_network : (path bytes : List ℕ) (r : Result Declaration TextFault) (value : Data) (text : List ℕ) (status number : ℕ)
-    → OfNetwork path bytes IsFindingsResult r value status → OfTextNetwork IsFindingsAnswer r text number → status ≡ number
-of_report_network path bytes (Ok d) value text status number (f, h, p) (g, k, q) = p.1 ∙ sym q.1
-of_report_network path bytes (Err fault) value text status number (told, is, p) q = p.1 ∙ sym q.1
-
-of_report : (path : List ℕ) (given : Option (List ℕ)) (value : Data) (text : List ℕ) (status number : ℕ)
-    → OfNetworkFile path IsFindingsResult given value status → IfLimited given IsReportAnswer text number → status ≡ number
-of_report path (Some bytes) value text status number p q = of_report_network path bytes (network_text bytes) value text status number p q
-of_report path None value text status number p q = p.1 ∙ sym q.1
+of_report : (path : List ℕ) (release : Release) (given : Option (List ℕ)) → HaveOneStatus (IsReportJson path release given) (IfLimited given IsReportAnswer)
+of_report path release given =
+    status_of_lines IsReportFinding (λ d found. found_value d found.findings) (λ _. 0) (λ d x y h k. refl) IsReportFinding report_lines (λ _. 0) (λ d x y h k. refl)
+    (codes "report") path release given
 
 -- ---- all
 
 pub statuses_are_those_of_texts : HaveStatusesOfTexts
 statuses_are_those_of_texts = record {
-  of_route = λ path name release given text other status number (value, is, spelled) q. of_route path name given value other status number is q;
+  of_route = of_route;
   of_check = λ path other release first second text said status number (value, is, spelled) q. of_check path other first second value said status number is q;
-  of_report = λ path release given text other status number (value, is, spelled) q. of_report path given value other status number is q;
+  of_report = of_report;
 }

@@ -1,6 +1,6 @@
 -- Results whose answers have a text that reads back.
 use Rattle.std.specs.Prelude.{ℕ, List, Option}
-use Rattle.sw_config.specs.Entries.{Declaration, FlowEntry}
+use Rattle.sw_config.specs.Entries.{Declaration}
 use Rattle.sw_flow.specs.declared.fault.RouteFault.{RouteFault}
 use Rattle.sw_flow.specs.declared.place.Place.{Place}
 use Rattle.sw_json.specs.Plain.{IsPlain}
@@ -11,7 +11,7 @@ use Rattle.sw_json_verdicts.specs.RouteResults.{told_route}
 
 -- an object with a list of places
 abbrev pub RoutesArePlain : Type 0
-RoutesArePlain = (d : Declaration) (f : FlowEntry) (places : List Place) (fault : Option (Place × RouteFault)) → IsPlain 3 (told_route d f places fault)
+RoutesArePlain = (d : Declaration) (flow : ℕ) (places : List Place) (fault : Option (Place × RouteFault)) → IsPlain 3 (told_route d flow places fault)
 
 -- one object
 abbrev pub RefusalsArePlain : Type 0

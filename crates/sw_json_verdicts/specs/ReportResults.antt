@@ -1,14 +1,14 @@
 -- What `report` answers with an object of JSON (this project's choice).
-use Rattle.std.specs.Prelude.{◌≡◌, ℕ, ◌-◌, List, Option, Some, None, codes, length}
+use Rattle.std.specs.Prelude.{ℕ, ◌-◌, List, codes, length}
 use Rattle.serde_json.specs.Data.{Data, object, string, member, no_members}
-use Rattle.sw_app.specs.Kept.{kept}
+use Rattle.sw_app.specs.VerdictAnswers.{IsReportFinding}
 use Rattle.sw_config.specs.Entries.{Declaration, all_flows, wiring_of}
+use Rattle.sw_json.specs.Answering.{AnswersToOne}
+use Rattle.sw_json.specs.ObjectAnswers.{NetworkFileAsObject}
 use Rattle.sw_json.specs.Simple.{count_value}
 use Rattle.sw_json.specs.VerdictValues.{verdict_value}
 use Rattle.sw_json.specs.declared.files.Release.{Release}
-use Rattle.sw_search.specs.Findings.{AreFindings}
 use Rattle.sw_search.specs.declared.verdict.Findings.{Findings}
-use Rattle.sw_json.specs.Answering.{AnswersToOne, IsAnswerToOne, IsCommandOutcome, OfNetworkFile, Results}
 
 -- How many parts of each kind the network has, how many places and dependencies, and the verdict; `flows` are the declared ones,
 -- `replies` those of replies.
@@ -28,19 +28,6 @@ report_value d places dependencies verdict =
 abbrev pub found_value : Declaration → Findings → Data
 found_value d f = report_value d f.places f.dependencies (verdict_value d f.verdict)
 
--- of a network: what was found of it, with status 0 whatever the verdict
-abbrev pub IsFindingsResult : Declaration → Results
-IsFindingsResult d value status = (f : Findings) × AreFindings d f × IsCommandOutcome (found_value d f) 0 value status
-
--- of the file of that path
+-- of the file of that path, with status 0 whatever the verdict
 abbrev pub IsReportJson : List ℕ → Release → AnswersToOne
-IsReportJson path release = IsAnswerToOne (codes "report") path release (OfNetworkFile path IsFindingsResult)
-
--- the network that the text of a file declares, if it has at most so many bytes; None of a text that is too long
-abbrev pub kept_of : ℕ → Option (List ℕ) → Option Declaration
-kept_of most (Some text) = kept most text
-kept_of most None = None
-
--- the answers to a file whose network is handed on
-abbrev pub KeepingOne : ℕ → Option Declaration → AnswersToOne → AnswersToOne
-KeepingOne most network P given text status = P given text status × (network ≡ kept_of most given)
+IsReportJson = NetworkFileAsObject (codes "report") IsReportFinding (λ d found. found_value d found.findings) (λ _. 0)

@@ -1,4 +1,4 @@
-//! The engines of `route`, `check` and `report` that answer with an object of JSON.
+//! The answers of `route` and `report` as an object of JSON, and the engine of `check` that answers with one.
 //!
 //! The engine of `swcheck audit`: verdicts on many files.
 #![tactic(auto)]
@@ -15,15 +15,15 @@ pub mod laws;
 mod names;
 mod parallel;
 mod reasons;
-mod report_engine;
-mod route_engine;
+mod report_values;
+mod route_values;
 mod statuses;
 mod stores;
+mod verdict_object;
 
 pub use audit_engine::{audit, audit_one};
 pub use audit_options::AuditOptions;
 pub use check_engine::check;
-pub use report_engine::{report, report_keeping};
-pub use route_engine::route;
 pub use stores::{AuditInput, Storage};
 pub use sw_json::Release;
+pub use verdict_object::VerdictObject;

@@ -1,3 +1,1 @@
 pub mod Accesses
-pub mod Asked
-pub mod Works

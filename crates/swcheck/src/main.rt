@@ -3,18 +3,19 @@
 #![tactic(auto)]
 
 mod asked;
-mod calls;
+mod call_end;
+mod commands;
 mod disk;
-mod engines;
-mod hints;
-mod notes;
 mod noting_writer;
+mod opened;
+mod program;
 mod recorded;
+mod rerun_hints;
+mod rmap_words;
 mod told;
 mod unread;
-mod work;
 
-use calls::run_program;
+use program::run_program;
 use std::io::IsTerminal;
 use std::process::ExitCode;
 use sw_graph::SideBySide;

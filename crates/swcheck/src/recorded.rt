@@ -3,8 +3,8 @@ ghost use Rattle.std.specs.Prelude.{◌≡◌, ◌<◌, Option, String};
 ghost use Rattle.std.specs.declared.alloc.Global.{Global};
 
 use crate::disk::RELEASE;
-use crate::engines::opened;
 use crate::noting_writer::{Failed, NotingWriter};
+use crate::opened::opened;
 use crate::told::{tell_long, tell_text};
 use std::fs;
 use std::io::{self, Read, Write};
@@ -12,8 +12,8 @@ use std::os::unix::fs::MetadataExt;
 use std::rt::Files;
 use std::sync::Wait;
 use std::thread::Threads;
-use sw_app_run::{Open, Options, RecordEnd, Wants, run_recorded};
 use sw_calls::tell_refused;
+use sw_runs::{Open, Options, RecordEnd, Wants, run_recorded, run_recorded_object};
 use sw_text::Ended;
 
 /// What is run, by so many threads and in at most so many steps, and what is wanted besides: the file in which the steps are to be written, a
@@ -73,7 +73,7 @@ fn run_job<R: Eprint + AllocGlobal + Threads + Wait + Sync, N: Read, L: Read, W:
         summary: job.summary,
     };
     let end = if job.json {
-        sw_json_runs::run_recorded(
+        run_recorded_object(
             rt,
             rt.alloc(),
             network,

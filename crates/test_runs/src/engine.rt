@@ -5,7 +5,7 @@ use crate::work::no_text;
 use std::io;
 use std::sync::Wait;
 use std::thread::Threads;
-use sw_app_run::{Options, run};
+use sw_runs::{Options, run};
 use sw_text::Ended;
 
 /// As many workers as link ends, and so many steps as are enough for the load.

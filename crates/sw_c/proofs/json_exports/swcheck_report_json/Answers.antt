@@ -1,5 +1,9 @@
-use Rattle.sw_c.proofs.Read.{object_of_one}
+use Rattle.std.specs.Prelude.{codes}
+use Rattle.sw_c.specs.Objects.{this}
+use Rattle.sw_c.proofs.Read.{report_object_given}
 use Rattle.sw_c.proofs.json_exports.swcheck_report_json.Goals as goal
 
 pub returns : goal.returns
-returns c = object_of_one _ _ _ _ _ _ _ c.new-text.ensures.items c.deref.ensures.value _ _ _ _ c.report-ended.ensures c.give_object.ensures
+returns c =
+    let given = rw c.into_ended-ended.ensures at c.give_object.ensures in
+    report_object_given _ _ _ _ _ _ _ c.new-text.ensures.items c.deref.ensures.value (codes "network") this _ _ _ c.report.ensures.ended given

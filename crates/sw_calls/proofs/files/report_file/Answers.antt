@@ -1,9 +1,16 @@
-use Rattle.std.proofs.Common.{None}
-use Rattle.std.proofs.KnownBytes.{Keeps-refl}
+use Rattle.sw_engine.proofs.LineEnds.{network_file_in_lines}
+use Rattle.sw_app.specs.VerdictAnswers.{IsReportAnswer, IsReportFinding, report_lines}
+use Rattle.sw_calls.proofs.Unread.{unread_ends, unread_holds, unread_told}
 use Rattle.sw_calls.proofs.files.report_file.Goals as goal
 
-pub returns-in_default : goal.returns-in_default
-returns-in_default g c = rw c.without_network.ensures.ended (None, None, Keeps-refl _)
+pub returns-in_default-clause-read : goal.returns-in_default-clause-read
+returns-in_default-clause-read g c = unread_ends IsReportAnswer _ _ _ c.of_unread.ensures.file c.of_unread.ensures.ended
 
-pub returns : goal.returns
-returns g c = (_, _, c.report_keeping.ensures)
+pub returns-in_default-clause-found : goal.returns-in_default-clause-found
+returns-in_default-clause-found g c = unread_holds IsReportFinding _ _ c.of_unread.ensures.file
+
+pub returns-in_default-clause-told : goal.returns-in_default-clause-told
+returns-in_default-clause-told g c = unread_told report_lines (λ _. 0) _ _ _ _ c.of_unread.ensures.file c.of_unread.ensures.ended
+
+pub returns-clause-read : goal.returns-clause-read
+returns-clause-read g c = (_, _, network_file_in_lines IsReportFinding report_lines (λ _. 0) _ _ _ _ _ c.report.ensures.ended, c.report.ensures.read)

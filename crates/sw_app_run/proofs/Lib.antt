@@ -1,6 +1,0 @@
-mod Retold
-mod Filled
-pub mod ReplayReports
-pub mod OneReplay
-mod WitnessAnswered
-mod AnswerAlone

@@ -1,5 +1,0 @@
-use Rattle.sw_app_run.proofs.OneReplay.{replay_has_one_answer}
-use Rattle.sw_app_run.proofs.laws.replay_has_one_answer.Goals as goal
-
-pub returns : goal.returns
-returns c = replay_has_one_answer

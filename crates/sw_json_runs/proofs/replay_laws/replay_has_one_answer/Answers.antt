@@ -1,5 +1,0 @@
-use Rattle.sw_json_runs.proofs.OneReplay.{replay_has_one_answer}
-use Rattle.sw_json_runs.proofs.replay_laws.replay_has_one_answer.Goals as goal
-
-pub returns : goal.returns
-returns c = replay_has_one_answer

@@ -1,9 +1,0 @@
-pub mod PacketValues
-pub mod ReplayValues
-pub mod ReplayAnswers
-pub mod RunValues
-pub mod RunAnswers
-pub mod RunRecords
-pub mod RunCalls
-pub mod ReplayLaws
-pub mod RunLaws

@@ -1,0 +1,13 @@
+use Rattle.std.proofs.Common.{arith}
+use Rattle.sw_app.proofs.PlaceChannels.{route_within}
+use Rattle.sw_json.proofs.PlainAnswers.{flat_of, whole_of}
+use Rattle.sw_json_verdicts.proofs.route_values.flow_outcome.Goals as goal
+
+pub told_route-requires-clause-places : goal.told_route-requires-clause-places
+told_route-requires-clause-places c = route_within c.args.network.now c.args.route.now c.deref.result.now c.requires c.deref.ensures.value
+
+pub invariant_of-result : goal.invariant_of-result
+invariant_of-result c = record {
+  whole = whole_of 3 _ _ c.in_ok-result.ensures (c.routes_are_plain.ensures c.args.network.now c.args.route.now.flow c.deref.result.now c.args.route.now.fault);
+  flat = flat_of 3 _ _ (omega arith) c.in_ok-result.ensures (c.routes_are_plain.ensures c.args.network.now c.args.route.now.flow c.deref.result.now c.args.route.now.fault);
+}

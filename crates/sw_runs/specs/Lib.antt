@@ -1,0 +1,17 @@
+pub mod RunTexts
+pub mod RunAnswers
+pub mod Summaries
+pub mod Records
+pub mod ReplayTexts
+pub mod ReplayAnswers
+pub mod Laws
+pub mod WitnessAnswers
+pub mod PacketValues
+pub mod ReplayValues
+pub mod ReplayObjects
+pub mod RunValues
+pub mod RunObjects
+pub mod LineRecords
+pub mod ObjectRecords
+pub mod ReplayObjectLaws
+pub mod RunObjectLaws
