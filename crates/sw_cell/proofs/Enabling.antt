@@ -1,6 +1,5 @@
 -- Whether a link end can step, by what the code tests.
-use Rattle.std.proofs.Common.{◌≡◌, ◌↔◌, ℕ, ◌<◌, Bool, true, false, length, None, Some, IsTrue, inl, inr, refl, ap, sym, ◌∙◌, ⊎_elim, arith}
-use Rattle.std.specs.Prelude.{slice_get}
+use Rattle.std.proofs.Common.{◌≡◌, ◌↔◌, ℕ, ◌<◌, Bool, true, false, length, None, IsTrue, inl, inr, refl, sym, ◌∙◌, ⊎_elim, arith}
 use Rattle.sw_cell.proofs.Dropping as dropping
 use Rattle.sw_cell.proofs.Granting as granting
 use Rattle.sw_cell.proofs.LinkEnds as ends
@@ -9,6 +8,7 @@ use Rattle.sw_cell.proofs.Nodes.{AnswersAs}
 use Rattle.sw_cell.proofs.Passing as passing
 use Rattle.sw_cell.proofs.Picking as picking
 use Rattle.sw_cell.proofs.Switches as switches
+use Rattle.sw_cell.proofs.Switches.{PortEnds}
 use Rattle.sw_cell.proofs.Telling as telling
 use Rattle.sw_cell.specs.Picks.{CannotGrant}
 use Rattle.sw_cell.specs.Possible.{CanStepAt, NodeEnabled, PortEnabled, PortHas, step_at_node, step_at_port}
@@ -17,7 +17,6 @@ use Rattle.sw_cell.specs.declared.node.NodeStep.{NodeStep}
 use Rattle.sw_cell.specs.declared.node.NodeStep.TheVariants as at_node
 use Rattle.sw_cell.specs.declared.switch.PortStep.{PortStep}
 use Rattle.sw_cell.specs.declared.switch.PortStep.TheVariants as at_port
-use Rattle.sw_flow.specs.Places.{end_of, ends_of}
 use Rattle.sw_machine.specs.Network.{AtSwitch, IsNetwork, Network, reverse_of}
 use Rattle.sw_machine.specs.State.{State}
 use Rattle.sw_machine.specs.Steps.{Accept, Arrive, Drop, Emit, Fct, FctIn, Forward, Grant, IsPossible, Reply, Spill}
@@ -31,7 +30,6 @@ use Rattle.sw_switch.specs.Cell.{Cell}
 use Rattle.sw_switch.specs.Conditions as ports
 use Rattle.sw_topo.proofs.Ends.{partner_back}
 use Rattle.sw_topo.specs.Wiring.{partner}
-use Rattle.sw_topo.specs.declared.place.PlaceEnd.TheVariants.{Switch}
 use Rattle.sw_link.specs.Between.{Between, fcts_at, wire_at}
 
 -- the link end of a node
@@ -95,21 +93,18 @@ module _ (net : Network) (ok : IsNetwork net) (n : ℕ) (in_net : n < net.nodes)
     reply = (nodes.reply_not net n in_net node b (λ h. never (inr (inr (inr h))))).0 s is;
   })
 
-module _ {R A : Type 0} (answer : R → ℕ → Look) (arbiter_ports : A → ℕ) (d : Declaration) (w : ℕ) (cell : Cell R A) (for : IsSwitchFor answer arbiter_ports d w cell) (b : Between) (e p : ℕ) (starts : slice_get (ends_of d) e ≡ Some (Switch w p)) where
-  at : end_of d (partner e) ≡ Some (Switch w p)
-  at = ap (slice_get (ends_of d)) (partner_back e) ∙ starts
-
+module _ {R A : Type 0} (answer : R → ℕ → Look) (arbiter_ports : A → ℕ) (d : Declaration) (w : ℕ) (cell : Cell R A) (for : IsSwitchFor answer arbiter_ports d w cell) (b : Between) (e p : ℕ) (at : PortEnds d w p e) where
   pub port_can : ports.CanStep answer cell p → PortEnabled d w cell b e true
   port_can can s is = ⊎_elim
-      (λ (h : ports.CanIssue cell p). record { step = Fct (partner e); belongs = partner_back e; no_begin = refl; possible = telling.port_fct answer arbiter_ports d w cell for b (partner e) p true at (passed h) s is })
+      (λ (h : ports.CanIssue cell p). record { step = Fct (partner e); belongs = partner_back e; no_begin = refl; possible = telling.port_fct answer arbiter_ports d w cell for b (partner e) p true at.ends (passed h) s is })
       (λ more. ⊎_elim
-      (λ (h : ports.CanDrop answer cell p). record { step = Drop (partner e); belongs = partner_back e; no_begin = refl; possible = telling.port_drop answer arbiter_ports d w cell for b (partner e) p true at (passed h) s is })
+      (λ (h : ports.CanDrop answer cell p). record { step = Drop (partner e); belongs = partner_back e; no_begin = refl; possible = telling.port_drop answer arbiter_ports d w cell for b (partner e) p true at.ends (passed h) s is })
       (λ rest. ⊎_elim
-      (λ (h : ports.CanForward cell p). record { step = Forward (partner e); belongs = partner_back e; no_begin = refl; possible = telling.port_forward answer arbiter_ports d w cell for b (partner e) p true at (passed h) s is })
+      (λ (h : ports.CanForward cell p). record { step = Forward (partner e); belongs = partner_back e; no_begin = refl; possible = telling.port_forward answer arbiter_ports d w cell for b (partner e) p true at.ends (passed h) s is })
       (λ last. ⊎_elim
-      (λ (h : ports.CanSpill cell p). record { step = Spill (partner e); belongs = partner_back e; no_begin = refl; possible = telling.port_spill answer arbiter_ports d w cell for b (partner e) p true at (passed h) s is })
+      (λ (h : ports.CanSpill cell p). record { step = Spill (partner e); belongs = partner_back e; no_begin = refl; possible = telling.port_spill answer arbiter_ports d w cell for b (partner e) p true at.ends (passed h) s is })
       (λ (h : (input : ℕ) × ports.CanGrant answer cell p input).
-      let g = telling.some_grant answer arbiter_ports d w cell for e p starts h.0 h.1 b s is in
+      let g = telling.some_grant answer arbiter_ports d w cell for e p at.starts h.0 h.1 b s is in
       record { step = Grant e g.0; belongs = refl; no_begin = refl; possible = g.1 })
       last)
       rest)
@@ -117,18 +112,18 @@ module _ {R A : Type 0} (answer : R → ℕ → Look) (arbiter_ports : A → ℕ
       can
 
   pub port_fct_can : 0 < fcts_at b e → PortEnabled d w cell b e true
-  port_fct_can some s is = record { step = FctIn e; belongs = refl; no_begin = refl; possible = telling.port_fct_in answer arbiter_ports d w cell for b e p true starts (passed some) s is }
+  port_fct_can some s is = record { step = FctIn e; belongs = refl; no_begin = refl; possible = telling.port_fct_in answer arbiter_ports d w cell for b e p true at.starts (passed some) s is }
 
   pub port_character_tells : (v : Bool) → (ports.CanStep answer cell p → ⊥) → (0 < fcts_at b e → ⊥) → (IsTrue v ↔ (0 < length (wire_at b (partner e)))) → PortEnabled d w cell b e v
-  port_character_tells true never none some = λ s is. record { step = Arrive (partner e); belongs = partner_back e; no_begin = refl; possible = telling.port_arrive answer arbiter_ports d w cell for b (partner e) p true at some s is }
-  port_character_tells false never none some = λ s is. ends.none_at_port (network_of d) (are_networks d for.valid) s is.reached e w (granting.starts_at d e w p starts) (record {
-    fct = (switches.fct_not answer arbiter_ports d w cell for b (partner e) p at (λ h. never (inl h))).0 s is;
-    fct_in = (switches.fct_in_not answer arbiter_ports d w cell for b e p starts (omega arith)).0 s is;
-    arrive = telling.port_arrive answer arbiter_ports d w cell for b (partner e) p false at some s is;
-    drops = (dropping.drop_not answer arbiter_ports d w cell for b (partner e) p at (λ h. never (inr (inl h)))).0 s is;
-    forward = (passing.forward_not answer arbiter_ports d w cell for b (partner e) p at (λ h. never (inr (inr (inl h))))).0 s is;
-    spill = (passing.spill_not answer arbiter_ports d w cell for b (partner e) p at (λ h. never (inr (inr (inr (inl h)))))).0 s is;
-    grant = λ c. picking.none_picked answer arbiter_ports d w cell for e p starts (λ k h. never (inr (inr (inr (inr (k, h)))))) c b s is;
+  port_character_tells true never none some = λ s is. record { step = Arrive (partner e); belongs = partner_back e; no_begin = refl; possible = telling.port_arrive answer arbiter_ports d w cell for b (partner e) p true at.ends some s is }
+  port_character_tells false never none some = λ s is. ends.none_at_port (network_of d) (are_networks d for.valid) s is.reached e w (granting.starts_at d e w p at.starts) (record {
+    fct = (switches.fct_not answer arbiter_ports d w cell for b (partner e) p at.ends (λ h. never (inl h))).0 s is;
+    fct_in = (switches.fct_in_not answer arbiter_ports d w cell for b e p at.starts (omega arith)).0 s is;
+    arrive = telling.port_arrive answer arbiter_ports d w cell for b (partner e) p false at.ends some s is;
+    drops = (dropping.drop_not answer arbiter_ports d w cell for b (partner e) p at.ends (λ h. never (inr (inl h)))).0 s is;
+    forward = (passing.forward_not answer arbiter_ports d w cell for b (partner e) p at.ends (λ h. never (inr (inr (inl h))))).0 s is;
+    spill = (passing.spill_not answer arbiter_ports d w cell for b (partner e) p at.ends (λ h. never (inr (inr (inr (inl h)))))).0 s is;
+    grant = λ c. picking.none_picked answer arbiter_ports d w cell for e p at.starts (λ k h. never (inr (inr (inr (inr (k, h)))))) c b s is;
   })
 
 -- where no step of a port is possible and no grant of its output, its link end cannot step

@@ -1,15 +1,19 @@
 -- The machine's network of a declared network, as the code finds its parts.
-use Rattle.std.proofs.Common.{◌≡◌, ◌<◌, arith, ℕ, List, length, Some, refl, ap, sym}
+use Rattle.std.proofs.Common.{◌≡◌, ◌<◌, ◌∙◌, arith, ℕ, List, length, Some, refl, ap, sym}
 use Rattle.std.specs.Prelude.{option_map, slice_get, unwrap_or}
-use Rattle.sw_cell.proofs.Nodes.{AnswersAs}
+use Rattle.sw_cell.proofs.Nodes.{AnswersAs, wires_long}
+use Rattle.sw_cell.specs.Makes.{HasNodeState}
 use Rattle.sw_cell.specs.Parts.{IsNodeFor}
 use Rattle.sw_char.specs.declared.nchar.End.{End}
 use Rattle.sw_flow.specs.Places.{ends_of}
+use Rattle.sw_link.specs.Between.{Between}
+use Rattle.sw_machine.proofs.DeclaredNetworks.{are_networks}
 use Rattle.sw_machine.specs.Model.{flow_of, network_of, reply_number}
+use Rattle.sw_machine.specs.Network.{IsNetwork}
 use Rattle.sw_machine.specs.Targets.{answer_of, memory_after, slots_of}
-use Rattle.sw_config.specs.Entries.{Declaration, FlowEntry, all_flows}
+use Rattle.sw_config.specs.Entries.{Declaration, FlowEntry, all_flows, wiring_of}
 use Rattle.sw_node.specs.Node.{Node, config_of, slots}
-use Rattle.sw_topo.specs.Wiring.{out, partner}
+use Rattle.sw_topo.specs.Wiring.{Wiring, out, partner}
 
 pub channels_are : (d : Declaration) → (network_of d).channels ≡ length (ends_of d)
 unfolding network_of
@@ -49,3 +53,29 @@ module _ (d : Declaration) (n : ℕ) (node : Node) (for : IsNodeFor d n node) wh
 
   pub in_network : n < (network_of d).nodes
   in_network = let e = nodes_are d in let lt = for.in_net in omega arith
+
+-- what the steps of a node ask of it
+pub record NodeFacts (d : Declaration) (n : ℕ) (node : Node) : Type 0 where
+  pub ok : IsNetwork (network_of d)
+  pub inside : n < (network_of d).nodes
+  pub capacity : (network_of d).capacity ((network_of d).into n) ≡ node.received.capacity
+  pub answers : AnswersAs (network_of d) n node
+
+module _ {d : Declaration} {n : ℕ} {node : Node} (for : IsNodeFor d n node) where
+  pub facts_of : NodeFacts d n node
+  facts_of = record { ok = are_networks d for.valid; inside = in_network d n node for; capacity = sym for.capacity; answers = answers_as d n node for }
+
+  -- what the code finds in the wiring: the node's channels, and that each channel has a wire
+  module _ {w : Wiring} (is : w ≡ wiring_of d) {c : ℕ} where
+    pub out_found : out w.ends n ≡ Some c → (network_of d).out n ≡ c
+    out_found e = out_is d n c (ap (λ (x : Wiring). out x.ends n) (sym is) ∙ e)
+
+    pub into_found : option_map partner (out w.ends n) ≡ Some c → (network_of d).into n ≡ c
+    into_found e = into_is d n c (ap (λ (x : Wiring). option_map partner (out x.ends n)) (sym is) ∙ e)
+
+    pub has_wire : {b : Between} → HasNodeState (network_of d) n node b → c < length w.ends → c < length b.wires
+    has_wire {b = b} reached lt =
+        let long = wires_long (network_of d) (are_networks d for.valid) n (in_network d n node for) node b reached in
+        let all = channels_are d in
+        let e = ap (λ (x : Wiring). length x.ends) is in
+        omega arith

@@ -1,7 +1,7 @@
 -- The parts of a switch that a step changes, and those that it leaves.
 use mathlib.Core.Logic.{∥∥₁_elim}
 use native.Mathlib.Bridge.{le_prop}
-use Rattle.std.proofs.Common.{◌≡◌, ℕ, ◌+◌, ◌-◌, ◌<◌, ◌≤◌, Bool, true, false, List, [], ◌∷◌, ◌++◌, drop, length, length-set, get_or-set_same, get_or-set_other, Some, None, IsBitSet, refl, ap, sym, subst, ◌∙◌, ⊎_elim, arith}
+use Rattle.std.proofs.Common.{◌≡◌, ℕ, ◌+◌, ◌-◌, ◌<◌, ◌≤◌, Bool, true, false, List, [], ◌∷◌, ◌++◌, drop, length, length-set, get_or-set_same, get_or-set_other, Option, Some, None, IsBitSet, refl, ap, sym, subst, ◌∙◌, ⊎_elim, arith}
 use Rattle.std.proofs.lemmas.Bool.{cases_eq}
 use Rattle.std.proofs.lemmas.Option.{slice_get_within, same_Some}
 use Rattle.std.specs.Prelude.{slice_get}
@@ -27,9 +27,9 @@ use Rattle.sw_route.specs.declared.look.Look.{Look}
 use Rattle.sw_switch.specs.Cell.{Cell, credit_at, end_at, input_at}
 use Rattle.sw_switch.specs.Changes.{with_credit, with_end}
 use Rattle.sw_switch.specs.Conditions.{CanIssue}
-use Rattle.sw_topo.proofs.Ends.{one_port, partner_back, port_found}
+use Rattle.sw_topo.proofs.Ends.{one_port, partner_back, port_found, port_starts}
 use Rattle.sw_topo.specs.Checked.{IsIn}
-use Rattle.sw_topo.specs.Wiring.{partner}
+use Rattle.sw_topo.specs.Wiring.{Wiring, out_of, partner}
 use Rattle.sw_topo.specs.declared.place.PlaceEnd.TheVariants.{Switch}
 use Rattle.sw_link.specs.Between.{Between, fcts_at, wire_at, with_fcts, with_wire}
 use Rattle.sw_machine.proofs.Steps.{switch_of}
@@ -319,3 +319,33 @@ end_place d c w e = switch_of (end_of d c) w e
 pub start_place : (d : Declaration) (c w : ℕ) → (network_of d).start_of c ≡ AtSwitch w → (p : ℕ) × (slice_get (ends_of d) c ≡ Some (Switch w p))
 unfolding network_of
 start_place d c w e = switch_of (slice_get (ends_of d) c) w e
+
+-- the channels of a link end that stands at a port
+pub record PortEnds (d : Declaration) (w p e : ℕ) : Type 0 where
+  pub starts : slice_get (ends_of d) e ≡ Some (Switch w p)
+  pub ends : end_of d (partner e) ≡ Some (Switch w p)
+
+module _ {R A : Type 0} {answer : R → ℕ → Look} {arbiter_ports : A → ℕ} {d : Declaration} {w : ℕ} {cell : Cell R A} (for : IsSwitchFor answer arbiter_ports d w cell) where
+  pub port_ends : {p sent e : ℕ} → sent ≡ e → slice_get (ends_of d) sent ≡ Some (Switch w p) → PortEnds d w p e
+  port_ends {e = e} same at =
+      let starts = ap (slice_get (ends_of d)) (sym same) ∙ at in
+      record { starts = starts; ends = ap (slice_get (ends_of d)) (partner_back e) ∙ starts }
+
+  -- the channel that comes to the port from which another goes out
+  pub back_found : (p : ℕ) {x : Wiring} {o : Option ℕ} {c : ℕ} → x ≡ wiring_of d → o ≡ out_of x.ends w p → o ≡ Some c → end_of d (partner c) ≡ Some (Switch w p)
+  back_found p {c = c} is goes some =
+      let out : out_of (ends_of d) w p ≡ Some c = ap (λ (y : Wiring). out_of y.ends w p) (sym is) ∙ sym goes ∙ some in
+      ap (slice_get (ends_of d)) (partner_back c) ∙ port_starts (wiring_of d) w p c out
+
+  -- a channel that ends or starts at a port has a wire
+  pub end_has_wire : {b : Between} {p : ℕ} → HasSwitchState d w cell b → (c : ℕ) → end_of d c ≡ Some (Switch w p) → c < length b.wires
+  end_has_wire {b = b} {p = p} reached c at =
+      let long = wires_long answer arbiter_ports d w cell for b reached in
+      let lt = within d for.valid c w p at in
+      omega arith
+
+  pub start_has_wire : {b : Between} {p : ℕ} → HasSwitchState d w cell b → (c : ℕ) → slice_get (ends_of d) c ≡ Some (Switch w p) → c < length b.wires
+  start_has_wire {b = b} {p = p} reached c at =
+      let long = wires_long answer arbiter_ports d w cell for b reached in
+      let lt = starts_within d c w p at in
+      omega arith

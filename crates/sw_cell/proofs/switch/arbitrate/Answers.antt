@@ -1,13 +1,10 @@
-use Rattle.std.proofs.Common.{◌≡◌, ◌<◌, Some, ap, sym, subst, ◌∙◌, refl}
-use Rattle.std.specs.Prelude.{IsSome, slice_get}
+use Rattle.std.proofs.Common.{◌<◌, ap, sym, subst, ◌∙◌, refl}
+use Rattle.std.specs.Prelude.{IsSome}
 use Rattle.sw_cell.proofs.Picking as picking
+use Rattle.sw_cell.proofs.Switches as switches
 use Rattle.sw_cell.proofs.switch.arbitrate.Goals as goal
 use Rattle.sw_cell.specs.SwitchParts.{IsSwitchFor}
-use Rattle.sw_flow.specs.Places.{end_of, ends_of}
-use Rattle.sw_config.specs.Entries.{wiring_of}
-use Rattle.sw_topo.proofs.Ends.{partner_back, port_starts}
 use Rattle.sw_topo.specs.Wiring.{Wiring, out_of, partner}
-use Rattle.sw_topo.specs.declared.place.PlaceEnd.TheVariants.{Switch}
 
 pub returns-in_err-picked-clause-none : goal.returns-in_err-picked-clause-none
 returns-in_err-picked-clause-none g c =
@@ -40,26 +37,17 @@ returns-clause-kept g c = tt
 
 pub returns-clause-cell : goal.returns-clause-cell
 returns-clause-cell g c =
-    let d = c.args.network.now in
-    let w = c.args.w in
-    let p = c.in_ok-picked.picked in
-    let goes : out_of (ends_of d) w p ≡ Some c.unwrap-back.result = ap (λ (x : Wiring). out_of x.ends w p) (sym c.topology.ensures.wiring) ∙ sym c.out_of.ensures.channel ∙ c.unwrap-back.ensures in
-    let ends : end_of d (partner c.unwrap-back.result) ≡ Some (Switch w p) = ap (slice_get (ends_of d)) (partner_back c.unwrap-back.result) ∙ port_starts (wiring_of d) w p c.unwrap-back.result goes in
-    picking.kept_picked g.R.Routing.answer g.A.Arbiter.ports d w g.A.Arbiter.policy c.args.cell.now c.grant.new.self c.requires.cell c.output-out.result p c.in_ok-picked.ensures.some (partner c.unwrap-back.result) ends g.met.A.Arbiter.keeps_ports
+    let ends = switches.back_found c.requires.cell c.in_ok-picked.picked c.topology.ensures.wiring c.out_of.ensures.channel c.unwrap-back.ensures in
+    picking.kept_picked g.R.Routing.answer g.A.Arbiter.ports c.args.network.now c.args.w g.A.Arbiter.policy c.args.cell.now c.grant.new.self c.requires.cell c.output-out.result c.in_ok-picked.picked c.in_ok-picked.ensures.some (partner c.unwrap-back.result) ends g.met.A.Arbiter.keeps_ports
 
 pub returns-clause-some : goal.returns-clause-some
 returns-clause-some g c =
-    let d = c.args.network.now in
-    let w = c.args.w in
-    let p = c.in_ok-picked.picked in
-    let back = c.unwrap-back.result in
-    let goes : out_of (ends_of d) w p ≡ Some back = ap (λ (x : Wiring). out_of x.ends w p) (sym c.topology.ensures.wiring) ∙ sym c.out_of.ensures.channel ∙ c.unwrap-back.ensures in
-    let ends : end_of d (partner back) ≡ Some (Switch w p) = ap (slice_get (ends_of d)) (partner_back back) ∙ port_starts (wiring_of d) w p back goes in
+    let ends = switches.back_found c.requires.cell c.in_ok-picked.picked c.topology.ensures.wiring c.out_of.ensures.channel c.unwrap-back.ensures in
     rw c.partner.ensures (record {
       out = c.output-out.result;
-      input = p;
+      input = c.in_ok-picked.picked;
       starts = c.output-out.ensures;
       ends = ends;
       grants = c.in_ok-picked.ensures.some;
-      makes = λ b. picking.picked_made g.R.Routing.answer g.A.Arbiter.ports d w g.A.Arbiter.policy c.args.cell.now c.grant.new.self c.requires.cell c.output-out.result p c.in_ok-picked.ensures.some (partner back) c.args.channel b ends c.output-out.ensures;
+      makes = λ b. picking.picked_made g.R.Routing.answer g.A.Arbiter.ports c.args.network.now c.args.w g.A.Arbiter.policy c.args.cell.now c.grant.new.self c.requires.cell c.output-out.result c.in_ok-picked.picked c.in_ok-picked.ensures.some (partner c.unwrap-back.result) c.args.channel b ends c.output-out.ensures;
     })

@@ -1,4 +1,4 @@
-use Rattle.std.proofs.Common.{subst, sym, refl, arith, ◌∙◌, true}
+use Rattle.std.proofs.Common.{subst, sym, refl, ◌∙◌, true}
 use Rattle.sw_link.specs.Ends.{arrived}
 use Rattle.sw_switch.specs.Cell.{end_at}
 use Rattle.sw_cell.specs.SwitchParts.{IsSwitchFor}
@@ -8,20 +8,14 @@ use Rattle.sw_machine.specs.Steps.{Arrive}
 use Rattle.sw_cell.proofs.switch.arrive.Goals as goal
 
 pub first-requires : goal.first-requires
-first-requires g c =
-    let long = switches.wires_long g.R.Routing.answer g.A.Arbiter.ports c.args.network.now c.args.w c.args.cell.now c.requires.cell c.args.wires.now c.requires.reached in
-    let lt = switches.within c.args.network.now c.requires.cell.valid c.args.channel c.args.w c.input-port.result c.input-port.ensures in
-    omega arith
+first-requires g c = switches.end_has_wire c.requires.cell c.requires.reached c.args.channel c.input-port.ensures
 
 pub returns-in_default-clause-made : goal.returns-in_default-clause-made
 returns-in_default-clause-made g c =
     switches.arrive_not g.R.Routing.answer g.A.Arbiter.ports c.args.network.now c.args.w c.args.cell.now c.requires.cell c.args.wires.now c.args.channel c.input-port.result c.input-port.ensures (sym c.first.ensures ∙ c.in_default.is)
 
 pub take-requires : goal.take-requires
-take-requires g c =
-    let long = switches.wires_long g.R.Routing.answer g.A.Arbiter.ports c.args.network.now c.args.w c.args.cell.now c.requires.cell c.args.wires.now c.requires.reached in
-    let lt = switches.within c.args.network.now c.requires.cell.valid c.args.channel c.args.w c.input-port.result c.input-port.ensures in
-    omega arith
+take-requires g c = switches.end_has_wire c.requires.cell c.requires.reached c.args.channel c.input-port.ensures
 
 pub arrive-requires : goal.arrive-requires
 arrive-requires g c =

@@ -8,10 +8,7 @@ use Rattle.sw_link.specs.Between.{fcts_at}
 use Rattle.sw_cell.proofs.switch.fct_in.Goals as goal
 
 pub fcts-requires : goal.fcts-requires
-fcts-requires g c =
-    let long = switches.wires_long g.R.Routing.answer g.A.Arbiter.ports c.args.network.now c.args.w c.args.cell.now c.requires.cell c.args.wires.now c.requires.reached in
-    let lt = switches.starts_within c.args.network.now c.args.channel c.args.w c.output-port.result c.output-port.ensures in
-    omega arith
+fcts-requires g c = switches.start_has_wire c.requires.cell c.requires.reached c.args.channel c.output-port.ensures
 
 pub returns-then-fcts-eq0-clause-made : goal.returns-then-fcts-eq0-clause-made
 returns-then-fcts-eq0-clause-made g c =
@@ -20,10 +17,7 @@ returns-then-fcts-eq0-clause-made g c =
     switches.fct_in_not g.R.Routing.answer g.A.Arbiter.ports c.args.network.now c.args.w c.args.cell.now c.requires.cell c.args.wires.now c.args.channel c.output-port.result c.output-port.ensures (omega arith)
 
 pub take_fct-requires-clause-within : goal.take_fct-requires-clause-within
-take_fct-requires-clause-within g c =
-    let long = switches.wires_long g.R.Routing.answer g.A.Arbiter.ports c.args.network.now c.args.w c.args.cell.now c.requires.cell c.args.wires.now c.requires.reached in
-    let lt = switches.starts_within c.args.network.now c.args.channel c.args.w c.output-port.result c.output-port.ensures in
-    omega arith
+take_fct-requires-clause-within g c = switches.start_has_wire c.requires.cell c.requires.reached c.args.channel c.output-port.ensures
 
 pub fct_in-requires : goal.fct_in-requires
 fct_in-requires g c =

@@ -1,5 +1,5 @@
 use Rattle.std.proofs.Common.{◌≡◌, ◌<◌, Some, ap, arith, length, subst, sym, true, ◌∙◌}
-use Rattle.std.proofs.lemmas.Bool.{false≢true}
+use Rattle.std.proofs.lemmas.Bool.Decides.{not_from_Decides}
 use Rattle.std.specs.Prelude.{IfSome, IsSome}
 use Rattle.sw_cell.proofs.Network.{channels_are}
 use Rattle.sw_cell.proofs.Passing as passing
@@ -8,13 +8,11 @@ use Rattle.sw_cell.proofs.switch.forward.Goals as goal
 use Rattle.sw_cell.specs.SwitchParts.{IsSwitchFor}
 use Rattle.sw_flow.specs.Places.{ends_of}
 use Rattle.sw_machine.specs.Steps.{Forward}
-use Rattle.sw_switch.specs.Conditions.{CanForward}
 use Rattle.sw_topo.specs.Wiring.{Wiring, out_of}
 
 pub returns-then-not-can_forward-clause-made : goal.returns-then-not-can_forward-clause-made
 returns-then-not-can_forward-clause-made g c =
-    let never = λ (can : CanForward c.args.cell.now c.input-port.result). false≢true (sym c.if-not-can_forward.true ∙ c.can_forward.ensures.1 can) in
-    passing.forward_not g.R.Routing.answer g.A.Arbiter.ports c.args.network.now c.args.w c.args.cell.now c.requires.cell c.args.wires.now c.args.channel c.input-port.result c.input-port.ensures never
+    passing.forward_not g.R.Routing.answer g.A.Arbiter.ports c.args.network.now c.args.w c.args.cell.now c.requires.cell c.args.wires.now c.args.channel c.input-port.result c.input-port.ensures (not_from_Decides c.can_forward.result c.can_forward.ensures c.if-not-can_forward.true)
 
 pub out_of-requires : goal.out_of-requires
 out_of-requires g c = subst (λ (x : Wiring). c.args.w < x.switches) (sym c.topology.ensures.wiring) c.requires.cell.in_net
@@ -36,8 +34,7 @@ put-requires-clause-within g c =
 pub put-requires-clause-room : goal.put-requires-clause-room
 put-requires-clause-room g c =
     let goes : out_of (ends_of c.args.network.now) c.args.w c.forward-out.result.0 ≡ Some c.unwrap-next.result = ap (λ (x : Wiring). out_of x.ends c.args.w c.forward-out.result.0) (sym c.topology.ensures.wiring) ∙ sym c.out_of.ensures.channel ∙ c.unwrap-next.ensures in
-    let can : CanForward c.args.cell.now c.input-port.result = c.can_forward.ensures.0 c.if-not-can_forward.false in
-    passing.forward_room g.R.Routing.answer g.A.Arbiter.ports c.args.network.now c.args.w c.args.cell.now c.requires.cell c.args.wires.now c.input-port.result c.unwrap-next.result c.forward-out.result.0 c.forward-out.ensures.out goes can c.requires.reached
+    passing.forward_room g.R.Routing.answer g.A.Arbiter.ports c.args.network.now c.args.w c.args.cell.now c.requires.cell c.args.wires.now c.input-port.result c.unwrap-next.result c.forward-out.result.0 c.forward-out.ensures.out goes (c.can_forward.ensures.0 c.if-not-can_forward.false) c.requires.reached
 
 pub returns-clause-cell : goal.returns-clause-cell
 returns-clause-cell g c =
@@ -47,8 +44,7 @@ returns-clause-cell g c =
 pub returns-clause-made : goal.returns-clause-made
 returns-clause-made g c =
     let goes : out_of (ends_of c.args.network.now) c.args.w c.forward-out.result.0 ≡ Some c.unwrap-next.result = ap (λ (x : Wiring). out_of x.ends c.args.w c.forward-out.result.0) (sym c.topology.ensures.wiring) ∙ sym c.out_of.ensures.channel ∙ c.unwrap-next.ensures in
-    let can : CanForward c.args.cell.now c.input-port.result = c.can_forward.ensures.0 c.if-not-can_forward.false in
     switches.made_as c.args.network.now c.args.w c.args.cell.now c.args.wires.now (Forward c.args.channel) true _ c.forward-out.new.self _ c.put.new.self
     c.forward-out.ensures.after
     c.put.ensures
-    (passing.forward_made g.R.Routing.answer g.A.Arbiter.ports c.args.network.now c.args.w c.args.cell.now c.requires.cell c.args.wires.now c.args.channel c.input-port.result c.unwrap-next.result c.forward-out.result.0 c.forward-out.result.1 c.input-port.ensures c.forward-out.ensures.out goes can c.forward-out.ensures.character)
+    (passing.forward_made g.R.Routing.answer g.A.Arbiter.ports c.args.network.now c.args.w c.args.cell.now c.requires.cell c.args.wires.now c.args.channel c.input-port.result c.unwrap-next.result c.forward-out.result.0 c.forward-out.result.1 c.input-port.ensures c.forward-out.ensures.out goes (c.can_forward.ensures.0 c.if-not-can_forward.false) c.forward-out.ensures.character)
