@@ -1,7 +1,5 @@
--- What is written with status 0 is an accepted certificate of a network that never locks up.
-use Rattle.std.proofs.Common.{◌≡◌, ◌∙◌, ℕ, ◌≤◌, List, [], ◌∷◌, arith, length, sym}
-use Rattle.std.specs.Prelude.{Option}
-use Rattle.std.specs.Io.KnownBytes.{Appends}
+-- A verdict with status 0 has a certificate, which is accepted for a network that never locks up.
+use Rattle.std.proofs.Common.{◌≡◌, ℕ, ◌≤◌, List, [], ◌∷◌, arith, length}
 use Rattle.std.specs.List.{AllByRecursion, AllZip}
 use Rattle.std.proofs.lemmas.List.Elements.{recursion_from_All}
 use Rattle.sw_config.specs.Entries.{FlowEntry, Declaration, all_flows}
@@ -19,12 +17,7 @@ use Rattle.sw_search.specs.Laws.{IsChecked}
 use Rattle.sw_search.specs.Verdicts.{IsFree}
 use Rattle.sw_search.proofs.Blocks.{all_are_flows, is_block}
 use Rattle.sw_search.proofs.Zips.{zip_length}
-use Rattle.sw_text.specs.declared.read_texts.InputError.{InputError}
-use Rattle.sw_text.specs.declared.read_texts.InputError.TheVariants as input
-use Rattle.sw_text.specs.declared.write_answer.Ended.{Ended}
-use Rattle.sw_text.specs.declared.write_answer.Ended.TheVariants.{Status, ReadFailed, WriteFailed}
-use Rattle.sw_app.specs.CheckAnswers.{IsShownDeadlockFree}
-use Rattle.sw_text.specs.Ends.{AreUnreadTold, IsMemoryTold, IsTold}
+use Rattle.sw_app.specs.ShownDeadlockFree.{IsShownDeadlockFree}
 use Rattle.sw_app.specs.VerdictAnswers.{SaysCertificate, verdict_status}
 
 -- ---- a free network's certificate has a text
@@ -56,20 +49,3 @@ shown_free d (Cyclic cycle) text valid checked said none = absurd (let bad : 1 �
 shown_free d (Free contents) text valid checked said none =
     let accepted = (not_refused_is_accepted d contents valid).0 checked in
     record { contents = contents; said = said; accepted = accepted; deadlock_free = is_free d (certificate_of contents) valid accepted }
-
--- ---- an end with status 0
-
-pub told_zero : (old new : Option (List ℕ)) (text : List ℕ) (status : ℕ) (ended : Ended) → IsTold old new text status ended → ended ≡ Status 0 → (status ≡ 0) × Appends old new text
-told_zero old new text status (Status n) is zero = (let none : n ≡ 0 = cc in sym is.0 ∙ none, is.1)
-told_zero old new text status ReadFailed is zero = absurd is
-told_zero old new text status WriteFailed is zero = absurd (let bad : WriteFailed ≡ Status 0 = zero in cc)
-
-not_zero : (old new : Option (List ℕ)) (text : List ℕ) (status : ℕ) (ended : Ended) → (status ≡ 0 → ⊥) → IsTold old new text status ended → ended ≡ Status 0 → ⊥
-not_zero old new text status ended other is zero = other (told_zero old new text status ended is zero).0
-
-pub memory_not_zero : (old new : Option (List ℕ)) (ended : Ended) → IsMemoryTold old new ended → ended ≡ Status 0 → ⊥
-memory_not_zero old new ended is zero = not_zero old new _ 5 ended (λ bad. omega (arith, bad)) is zero
-
-pub two_unread_not_zero : (error : InputError) (old new : Option (List ℕ)) (ended : Ended) → AreUnreadTold error old new ended → ended ≡ Status 0 → ⊥
-two_unread_not_zero input.Memory old new ended is zero = memory_not_zero old new ended is zero
-two_unread_not_zero input.Failed old new ended is zero = let bad : ReadFailed ≡ Status 0 = sym is.0 ∙ zero in cc

@@ -1,6 +1,7 @@
 pub mod RouteTexts
 pub mod RouteAnswers
 pub mod CheckTexts
+pub mod ShownDeadlockFree
 pub mod CheckAnswers
 pub mod Laws
 pub mod VerdictAnswers

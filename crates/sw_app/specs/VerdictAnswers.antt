@@ -12,7 +12,7 @@ use Rattle.sw_search.specs.Verdicts.{IsVerdict}
 use Rattle.sw_output.specs.Lines.{line}
 use Rattle.sw_output.specs.ReportTexts.{report_text}
 use Rattle.sw_output.specs.VerdictTexts.{cycle_text, cyclic_words, free_words, misrouted_words}
-use Rattle.sw_app.specs.CheckAnswers.{AreShownDeadlockFree, IsShownDeadlockFree}
+use Rattle.sw_app.specs.ShownDeadlockFree.{AreShownDeadlockFree, IsShownDeadlockFree}
 use Rattle.sw_app.specs.declared.decide_finding.DecideFinding.{DecideFinding}
 use Rattle.sw_app.specs.declared.report_finding.ReportFinding.{ReportFinding}
 use Rattle.sw_text.specs.Ends.{Answers, GivesAll}

@@ -1,16 +1,13 @@
 //! The texts of `check`.
 ghost use Rattle.std.specs.Prelude.{◌≡◌, ◌∷◌, [], IfOk, string_bytes};
-ghost use Rattle.sw_text.specs.Ends.{Says};
 ghost use Rattle.sw_output.specs.Lines.{line};
-ghost use Rattle.sw_app.specs.CheckTexts.{grammar_words, not_rising_words, refusal_words};
+ghost use Rattle.sw_app.specs.CheckTexts.{grammar_line, grammar_words, not_rising_words, refusal_line, refusal_words};
 
 use std::alloc::{AllocError, Global};
 use sw_cert::Refusal;
 use sw_config::Network;
 use sw_flow::{Place, RouteFault};
 use sw_output::{flow_name, place_words, route_fault_text};
-use sw_text::Answer;
-use sw_text::statuses::BAD;
 use sw_topo::Chan;
 
 /// What is told of a text that is no certificate: the first line that is wrong, counted from 1.
@@ -86,11 +83,29 @@ pub fn refusal_words(
     }
 }
 
-/// The answer that a certificate is refused, with a line of these words.
-pub(crate) fn refused(words: String) -> Result<Answer, AllocError>
-    ensures { IfOk result (λ a. Says (line (string_bytes words ∷ [])) 1 (string_bytes a.text) a.status) }
+// The words with the end of a line.
+fn line_of(words: String) -> Result<String, AllocError>
+    ensures { IfOk result (λ s. string_bytes s ≡ line (string_bytes words ∷ [])) }
 {
     let mut text = words;
     text.push_str("\n")?;
-    Ok(Answer { text, status: BAD })
+    Ok(text)
+}
+
+/// The line of a text that is no certificate, by its first wrong line.
+pub(crate) fn grammar_line(alloc: Global, number: usize) -> Result<String, AllocError>
+    ensures { IfOk result (λ s. string_bytes s ≡ grammar_line number) }
+{
+    line_of(grammar_words(alloc, number)?)
+}
+
+/// The line of a certificate that is refused for the network.
+pub(crate) fn refusal_line(
+    alloc: Global,
+    network: &Network,
+    refusal: Refusal,
+) -> Result<String, AllocError>
+    ensures { IfOk result (λ s. string_bytes s ≡ refusal_line network.now refusal) }
+{
+    line_of(refusal_words(alloc, network, refusal)?)
 }

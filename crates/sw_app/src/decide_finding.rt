@@ -43,8 +43,12 @@ impl AsLines for DecideFinding {
     }
 }
 
-// What is found of a network.
-fn find<T: VerdictWorkers>(
+/// What is found of a network: the verdict on it. The workers share the work.
+///
+/// # Errors
+///
+/// There is no memory for it.
+pub fn find_verdict<T: VerdictWorkers>(
     workers: &T,
     alloc: Global,
     network: &Network,
@@ -75,9 +79,14 @@ pub fn decide<T: VerdictWorkers, R: Read, W: Write>(
 {
     let file = read_network_file(alloc, reader);
     let found = match file.network() {
-        Some(network) => Some(find(workers, alloc, network)),
+        Some(network) => Some(find_verdict(workers, alloc, network)),
         None => None,
     };
-    let ended = tell_found(&Lines, alloc, &file, &found, writer);
-    CommandEnd { ended, file, found }
+    let ended = tell_found(&Lines, alloc, &file, None, &found, writer);
+    CommandEnd {
+        ended,
+        file,
+        second: None,
+        found,
+    }
 }

@@ -1,5 +1,5 @@
 //! What `report` finds, and its engine.
-ghost use Rattle.std.specs.Prelude.{◌≡◌, IfOk};
+ghost use Rattle.std.specs.Prelude.{◌≡◌, IfOk, None};
 ghost use Rattle.sw_engine.specs.Engines.{AnswersInForm, EndsByOne};
 ghost use Rattle.sw_engine.specs.Files.{IsFileRead, network_of};
 ghost use Rattle.sw_engine.specs.Tellings.{AnswersToFile, HoldsOfFound, IsFileTold};
@@ -69,16 +69,21 @@ pub fn report<T: VerdictWorkers, R: Read, F: Form<ReportFinding>, W: Write>(
     form: &F,
     writer: &mut W,
 ) -> CommandEnd<ReportFinding>
-    ensures ended { EndsByOne F.memory (AnswersInForm IsReportFinding (F.tells form.now) (F.faulty form.now) (F.long form.now)) (R.remaining reader.old) (R.remaining reader.new) (W.contents writer.old) (W.contents writer.new) result.ended }
+    ensures ended { EndsByOne F.memory (AnswersInForm IsReportFinding (F.tells form.now None) (F.faulty form.now None) (F.long form.now None)) (R.remaining reader.old) (R.remaining reader.new) (W.contents writer.old) (W.contents writer.new) result.ended }
     ensures read { IsFileRead (R.remaining reader.old) (R.remaining reader.new) result.file }
     ensures found { HoldsOfFound IsReportFinding (network_of result.file) result.found }
-    ensures told { IsFileTold F.memory (AnswersToFile (F.tells form.now) (F.faulty form.now) (F.long form.now) result.file result.found) result.file (W.contents writer.old) (W.contents writer.new) result.ended }
+    ensures told { IsFileTold F.memory (AnswersToFile (F.tells form.now None) (F.faulty form.now None) (F.long form.now None) result.file result.found) result.file (W.contents writer.old) (W.contents writer.new) result.ended }
 {
     let file = read_network_file(alloc, reader);
     let found = match file.network() {
         Some(network) => Some(find(workers, alloc, network)),
         None => None,
     };
-    let ended = tell_found(form, alloc, &file, &found, writer);
-    CommandEnd { ended, file, found }
+    let ended = tell_found(form, alloc, &file, None, &found, writer);
+    CommandEnd {
+        ended,
+        file,
+        second: None,
+        found,
+    }
 }

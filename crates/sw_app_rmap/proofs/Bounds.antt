@@ -9,7 +9,7 @@ use Rattle.sw_app_rmap.specs.declared.request.Access.{Access}
 use Rattle.sw_app_rmap.specs.declared.request.Access.TheVariants as access
 use Rattle.sw_app_rmap.specs.declared.request.Request.{Request}
 use Rattle.sw_app_rmap.specs.Orders.{Action, IsSmall, RmapOrder, action_of, length_of, order_of, reads, transaction_of, writes}
-use Rattle.sw_app_rmap.specs.Told.{ok_or}
+use Rattle.sw_text.specs.Gives.{ok_or}
 use Rattle.sw_app_rmap.specs.Words.{digits_of, goes_on, is_hexadecimal, number_of}
 use Rattle.sw_app_rmap.proofs.Parts.{goes_on as parts_of, is_read, is_there}
 use Rattle.sw_config.proofs.Lists.{none_some}

@@ -6,15 +6,15 @@ use Rattle.sw_config.specs.Entries.{Declaration, FlowEntry, NodeEntry, all_flows
 use Rattle.sw_config.specs.Limits.{is_limited}
 use Rattle.sw_machine.specs.DeclaredPackets.{left_bytes}
 use Rattle.sw_rmap.specs.declared.config.TargetConfig.{TargetConfig}
-use Rattle.sw_app_rmap.specs.declared.fault.RmapError.{RmapError}
-use Rattle.sw_app_rmap.specs.declared.fault.RmapError.TheVariants.{Fault, Memory}
+use Rattle.sw_text.specs.declared.fault.OrMemory.{OrMemory}
+use Rattle.sw_text.specs.declared.fault.OrMemory.TheVariants.{Fault, Memory}
 use Rattle.sw_app_rmap.specs.declared.fault.RmapFault.{RmapFault}
 use Rattle.sw_app_rmap.specs.declared.fault.RmapFault.TheVariants.{UnknownFlow, BadAddress, BadTransaction, NoTarget, NotAnswered, NoReply, OutsideWindow, WrongLeft, TooLong}
 use Rattle.sw_app_rmap.specs.declared.request.Request.{Request}
 use Rattle.sw_app_rmap.specs.FlowCommands.{bytes_to}
 use Rattle.sw_app_rmap.specs.Orders.{Action, RmapOrder, action_of, order_of, transaction_of, wants_reply}
 use Rattle.sw_app_rmap.specs.Packets.{FlowPacket, begins_with, behind_left, cargo_of, cargo_to, cargo_where, is_in_window, packet_of}
-use Rattle.sw_app_rmap.specs.Told.{◌>>=◌, Fails, Gives, ok_or}
+use Rattle.sw_text.specs.Gives.{◌>>=◌, Fails, Gives, ok_or}
 use Rattle.sw_app_rmap.specs.Words.{number_of}
 use Rattle.sw_config.proofs.Lists.{in_front}
 
@@ -137,7 +137,7 @@ module _ (d : Declaration) (r : Request) where
       })
 
 -- an error that is handed on
-pub handed_on : (r : Result FlowPacket RmapError) (e : RmapError) (made : Result FlowPacket RmapFault) → IsErr r × IsErrAnd r (λ x. x ≡ e) → Fails e made → Gives (λ p. p) r made
+pub handed_on : (r : Result FlowPacket (OrMemory RmapFault)) (e : OrMemory RmapFault) (made : Result FlowPacket RmapFault) → IsErr r × IsErrAnd r (λ x. x ≡ e) → Fails e made → Gives (λ p. p) r made
 handed_on (Ok p) e made is failed = absurd cc
 handed_on (Err x) e made is failed = rw is.1 failed
 
@@ -147,12 +147,12 @@ module _ (d : Declaration) (r : Request) (number : ℕ) (flow : FlowEntry) (name
   declared : slice_get d.flows number ≡ Some flow
   declared = in_front d.flows (reply_flows d.flows) number flow low there
 
-  pub order_refused : (e : RmapError) → Fails e (order_of r) → Fails e (packet_of d r)
+  pub order_refused : (e : OrMemory RmapFault) → Fails e (order_of r) → Fails e (packet_of d r)
   unfolding packet_of
   order_refused Memory failed = tt
   order_refused (Fault fault) failed = rw (sym named, declared, failed) refl
 
-  pub cargo_refused : (e : RmapError) (order : RmapOrder) → order_of r ≡ Ok order → Fails e (cargo_of d.nodes flow order) → Fails e (packet_of d r)
+  pub cargo_refused : (e : OrMemory RmapFault) (order : RmapOrder) → order_of r ≡ Ok order → Fails e (cargo_of d.nodes flow order) → Fails e (packet_of d r)
   unfolding packet_of
   cargo_refused Memory order asked failed = tt
   cargo_refused (Fault fault) order asked failed = rw (sym named, declared, asked, failed) refl

@@ -1,4 +1,3 @@
-pub mod Told
 pub mod Words
 pub mod Orders
 pub mod FlowCommands

@@ -9,7 +9,7 @@ use Rattle.sw_app_rmap.specs.declared.order.RmapOrder as code_order
 use Rattle.sw_app_rmap.specs.declared.request.Access.{Access}
 use Rattle.sw_app_rmap.specs.declared.request.Access.TheVariants as access
 use Rattle.sw_app_rmap.specs.declared.request.Request.{Request}
-use Rattle.sw_app_rmap.specs.Told.{◌>>=◌, ok_or}
+use Rattle.sw_text.specs.Gives.{◌>>=◌, ok_or}
 use Rattle.sw_app_rmap.specs.Words.{number_of}
 
 -- what a command does at its address: it reads so many bytes, or writes these, and is answered or not

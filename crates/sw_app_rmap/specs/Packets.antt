@@ -10,7 +10,7 @@ use Rattle.sw_app_rmap.specs.declared.fault.RmapFault.TheVariants.{UnknownFlow, 
 use Rattle.sw_app_rmap.specs.declared.request.Request.{Request}
 use Rattle.sw_app_rmap.specs.FlowCommands.{bytes_to}
 use Rattle.sw_app_rmap.specs.Orders.{RmapOrder, length_of, order_of, wants_reply}
-use Rattle.sw_app_rmap.specs.Told.{◌>>=◌, ok_or}
+use Rattle.sw_text.specs.Gives.{◌>>=◌, ok_or}
 
 -- a packet: the number of its flow, and its bytes behind the flow's address
 pub record FlowPacket : Type 0 where

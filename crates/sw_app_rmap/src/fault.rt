@@ -1,9 +1,6 @@
 //! Why there is no packet.
 ghost use Rattle.std.specs.Prelude.{◌≡◌};
-ghost use Rattle.sw_app_rmap.specs.declared.fault.RmapError.TheVariants.{Memory};
 ghost use Rattle.sw_app_rmap.specs.EntryTexts.{fault_words};
-
-use std::alloc::AllocError;
 
 /// Why a flow has no such packet.
 #[derive(Clone, Copy)]
@@ -30,21 +27,6 @@ pub enum RmapFault {
     WrongLeft,
     /// The cargo has more bytes than a load can say.
     TooLong,
-}
-
-/// Why there is no packet, or want of memory.
-#[derive(Clone, Copy)]
-pub(crate) enum RmapError {
-    Fault(RmapFault),
-    Memory,
-}
-
-impl From<AllocError> for RmapError {
-    ghost from_gives = { λ _ e. e ≡ Memory };
-
-    fn from(_error: AllocError) -> RmapError {
-        RmapError::Memory
-    }
 }
 
 /// The code and the name of a fault.

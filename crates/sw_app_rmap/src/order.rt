@@ -1,14 +1,15 @@
 //! What is asked for, as numbers and bytes.
 ghost use Rattle.std.specs.Prelude.{◌≡◌, option_map};
-ghost use Rattle.sw_app_rmap.specs.Told.{Gives};
+ghost use Rattle.sw_text.specs.Gives.{Gives};
 ghost use Rattle.sw_app_rmap.specs.Orders.{action_of, action_view, data_of, is_write, length_of, order_of, order_view, transaction_of, wants_reply};
 
-use crate::fault::{RmapError, RmapFault};
+use crate::fault::RmapFault;
 use crate::request::{Access, Request};
 use crate::words::number_of;
 use std::alloc::Global;
 use sw_file::MEMORY_END;
 use sw_load::pairs_of;
+use sw_text::OrMemory;
 
 /// The greatest data length: 24 bits.
 const MAX_LENGTH: u64 = 16_777_215;
@@ -72,17 +73,17 @@ impl Action {
 
 // What stands for the action: a length of at most 24 bits, or 1 to 4,096 bytes as hexadecimal pairs.
 #[tactic(auto, unfolding(crate::specs::Orders::action_of))]
-fn action_of(alloc: Global, access: &Access<'_>) -> Result<Action, RmapError>
+fn action_of(alloc: Global, access: &Access<'_>) -> Result<Action, OrMemory<RmapFault>>
     ensures { Gives action_view result (action_of access.now) }
 {
     match access {
         Access::Read { length } => match number_of(length, MAX_LENGTH) {
             Some(count) => Ok(Action::Read(count as u32)),
-            None => Err(RmapError::Fault(RmapFault::BadLength)),
+            None => Err(OrMemory::Fault(RmapFault::BadLength)),
         },
         Access::Write { data, acknowledged } => match pairs_of(alloc, data.as_bytes())? {
             Some(bytes) => Ok(Action::Write(bytes, *acknowledged)),
-            None => Err(RmapError::Fault(RmapFault::BadData)),
+            None => Err(OrMemory::Fault(RmapFault::BadData)),
         },
     }
 }
@@ -106,15 +107,18 @@ fn transaction_of(word: Option<&str>) -> Option<u16>
 ///
 /// `Fault`: the first word that is none such. `Memory`: there is no memory for the data.
 #[tactic(auto, unfolding(crate::specs::Orders::order_of))]
-pub(crate) fn order_of(alloc: Global, request: &Request<'_>) -> Result<RmapOrder, RmapError>
+pub(crate) fn order_of(
+    alloc: Global,
+    request: &Request<'_>,
+) -> Result<RmapOrder, OrMemory<RmapFault>>
     ensures { Gives order_view result (order_of request.now) }
 {
     let Some(address) = number_of(request.address, MEMORY_END - 1) else {
-        return Err(RmapError::Fault(RmapFault::BadAddress));
+        return Err(OrMemory::Fault(RmapFault::BadAddress));
     };
     let action = action_of(alloc, &request.access)?;
     let Some(transaction) = transaction_of(request.transaction) else {
-        return Err(RmapError::Fault(RmapFault::BadTransaction));
+        return Err(OrMemory::Fault(RmapFault::BadTransaction));
     };
     Ok(RmapOrder {
         address,

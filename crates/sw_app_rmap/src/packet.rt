@@ -3,12 +3,12 @@ ghost use Rattle.std.specs.Prelude.{◌≡◌, ◌≤◌, length};
 ghost use Rattle.sw_config.specs.Limits.{is_limited};
 ghost use Rattle.sw_config.specs.Valid.{IsFlow};
 ghost use Rattle.sw_rmap.specs.Config.{IsTargetConfig};
-ghost use Rattle.sw_app_rmap.specs.Told.{Gives};
+ghost use Rattle.sw_text.specs.Gives.{Gives};
 ghost use Rattle.sw_app_rmap.specs.FlowCommands.{path_back};
 ghost use Rattle.sw_app_rmap.specs.Orders.{IsSmall, order_view};
 ghost use Rattle.sw_app_rmap.specs.Packets.{begins_with, behind_left, cargo_of, cargo_to, cargo_where, is_in_window, packet_of};
 
-use crate::fault::{RmapError, RmapFault};
+use crate::fault::RmapFault;
 use crate::flow_command::bytes_to;
 use crate::order::{RmapOrder, order_of};
 use crate::request::Request;
@@ -18,6 +18,7 @@ use sw_config::{Flow, Network};
 use sw_load::MAX_CARGO;
 use sw_machine::left_bytes;
 use sw_rmap::TargetConfig;
+use sw_text::OrMemory;
 
 /// A packet: the number of its flow, and its bytes behind the flow's address.
 #[derive(Drop)]
@@ -50,15 +51,15 @@ fn begins_with(left: &[u8], bytes: &[u8]) -> bool
 }
 
 // What follows the address bytes that are left.
-fn behind_left(alloc: Global, left: &[u8], bytes: &[u8]) -> Result<Vec<u8>, RmapError>
+fn behind_left(alloc: Global, left: &[u8], bytes: &[u8]) -> Result<Vec<u8>, OrMemory<RmapFault>>
     ensures { Gives (λ v. v.items) result (behind_left left.now bytes.now) }
 {
     if !begins_with(left, bytes) {
-        return Err(RmapError::Fault(RmapFault::WrongLeft));
+        return Err(OrMemory::Fault(RmapFault::WrongLeft));
     }
     let cargo = &bytes[left.len()..];
     if cargo.len() > MAX_CARGO {
-        return Err(RmapError::Fault(RmapFault::TooLong));
+        return Err(OrMemory::Fault(RmapFault::TooLong));
     }
     Ok(Vec::from_slice(alloc, cargo)?)
 }
@@ -68,17 +69,17 @@ fn cargo_to(
     target: TargetConfig,
     flow: &Flow,
     order: &RmapOrder,
-) -> Result<Vec<u8>, RmapError>
+) -> Result<Vec<u8>, OrMemory<RmapFault>>
     requires target { IsTargetConfig target }
     requires path { length (path_back flow.now.reply) ≤ 12 }
     requires small { IsSmall (order_view order.now) }
     ensures { Gives (λ v. v.items) result (cargo_to target flow.now (order_view order.now)) }
 {
     if order.action.wants_reply() && flow.reply().is_none() {
-        return Err(RmapError::Fault(RmapFault::NoReply));
+        return Err(OrMemory::Fault(RmapFault::NoReply));
     }
     if !is_in_window(target, order) {
-        return Err(RmapError::Fault(RmapFault::OutsideWindow));
+        return Err(OrMemory::Fault(RmapFault::OutsideWindow));
     }
     let bytes = bytes_to(alloc, target, flow.reply(), order)?;
     behind_left(alloc, left_bytes(flow), &bytes)
@@ -91,14 +92,14 @@ fn cargo_where(
     target: TargetConfig,
     flow: &Flow,
     order: &RmapOrder,
-) -> Result<Vec<u8>, RmapError>
+) -> Result<Vec<u8>, OrMemory<RmapFault>>
     requires target { IsTargetConfig target }
     requires path { length (path_back flow.now.reply) ≤ 12 }
     requires small { IsSmall (order_view order.now) }
     ensures { Gives (λ v. v.items) result (cargo_where limited target flow.now (order_view order.now)) }
 {
     if limited && !order.action.wants_reply() {
-        return Err(RmapError::Fault(RmapFault::NotAnswered));
+        return Err(OrMemory::Fault(RmapFault::NotAnswered));
     }
     cargo_to(alloc, target, flow, order)
 }
@@ -110,7 +111,7 @@ fn cargo_of(
     limited: bool,
     flow: &Flow,
     order: &RmapOrder,
-) -> Result<Vec<u8>, RmapError>
+) -> Result<Vec<u8>, OrMemory<RmapFault>>
     requires limited { limited ≡ is_limited network.now.nodes flow.now }
     requires flow { IsFlow network.now.nodes flow.now }
     requires small { IsSmall (order_view order.now) }
@@ -118,7 +119,7 @@ fn cargo_of(
 {
     match network.target(flow.to()) {
         Some(target) => cargo_where(alloc, limited, target, flow, order),
-        None => Err(RmapError::Fault(RmapFault::NoTarget)),
+        None => Err(OrMemory::Fault(RmapFault::NoTarget)),
     }
 }
 
@@ -132,11 +133,11 @@ pub(crate) fn packet_of(
     alloc: Global,
     network: &Network,
     request: &Request<'_>,
-) -> Result<FlowPacket, RmapError>
+) -> Result<FlowPacket, OrMemory<RmapFault>>
     ensures { Gives (λ p. p) result (packet_of network.now request.now) }
 {
     let Some(number) = network.declared_flow_named(request.flow) else {
-        return Err(RmapError::Fault(RmapFault::UnknownFlow));
+        return Err(OrMemory::Fault(RmapFault::UnknownFlow));
     };
     let flow = network.flow(number);
     let order = order_of(alloc, request)?;

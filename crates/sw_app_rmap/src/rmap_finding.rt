@@ -1,19 +1,20 @@
 //! What `rmap` finds, and its engine.
-ghost use Rattle.std.specs.Prelude.{◌≡◌, IfOk, string_bytes};
+ghost use Rattle.std.specs.Prelude.{◌≡◌, IfOk, string_bytes, None};
 ghost use Rattle.sw_app_rmap.specs.RmapAnswers.{IsRmapFinding, rmap_lines, rmap_status};
 ghost use Rattle.sw_app_rmap.specs.EntryTexts.{fault_line};
 ghost use Rattle.sw_engine.specs.Engines.{AnswersInForm, EndsByOne};
 ghost use Rattle.sw_engine.specs.Files.{IsFileRead, network_of};
-ghost use Rattle.sw_engine.specs.Tellings.{HoldsOfFound};
+ghost use Rattle.sw_engine.specs.Tellings.{AnswersToFile, HoldsOfFound, IsFileTold};
 
 use crate::entry_texts::entry_text;
-use crate::fault::{RmapError, RmapFault, fault_words};
+use crate::fault::{RmapFault, fault_words};
 use crate::packet::packet_of;
 use crate::request::Request;
 use std::alloc::{AllocError, Global};
 use std::io::{Read, Write};
 use sw_config::Network;
 use sw_engine::{AsLines, CommandEnd, Finding, Form, read_network_file, tell_found};
+use sw_text::OrMemory;
 use sw_text::statuses::{FAULTY, GOOD};
 
 /// What `rmap` finds of a network.
@@ -67,8 +68,8 @@ fn find(alloc: Global, network: &Network, request: &Request<'_>) -> Result<RmapF
             let text = entry_text(alloc, network, request.flow, packet.flow, &packet.cargo)?;
             Ok(RmapFinding::Entry(text))
         }
-        Err(RmapError::Fault(fault)) => Ok(RmapFinding::Fault(fault)),
-        Err(RmapError::Memory) => Err(AllocError),
+        Err(OrMemory::Fault(fault)) => Ok(RmapFinding::Fault(fault)),
+        Err(OrMemory::Memory) => Err(AllocError),
     }
 }
 
@@ -81,15 +82,21 @@ pub fn rmap<R: Read, F: Form<RmapFinding>, W: Write>(
     form: &F,
     writer: &mut W,
 ) -> CommandEnd<RmapFinding>
-    ensures ended { EndsByOne F.memory (AnswersInForm (IsRmapFinding request.now) (F.tells form.now) (F.faulty form.now) (F.long form.now)) (R.remaining reader.old) (R.remaining reader.new) (W.contents writer.old) (W.contents writer.new) result.ended }
+    ensures ended { EndsByOne F.memory (AnswersInForm (IsRmapFinding request.now) (F.tells form.now None) (F.faulty form.now None) (F.long form.now None)) (R.remaining reader.old) (R.remaining reader.new) (W.contents writer.old) (W.contents writer.new) result.ended }
     ensures read { IsFileRead (R.remaining reader.old) (R.remaining reader.new) result.file }
     ensures found { HoldsOfFound (IsRmapFinding request.now) (network_of result.file) result.found }
+    ensures told { IsFileTold F.memory (AnswersToFile (F.tells form.now None) (F.faulty form.now None) (F.long form.now None) result.file result.found) result.file (W.contents writer.old) (W.contents writer.new) result.ended }
 {
     let file = read_network_file(alloc, reader);
     let found = match file.network() {
         Some(network) => Some(find(alloc, network, request)),
         None => None,
     };
-    let ended = tell_found(form, alloc, &file, &found, writer);
-    CommandEnd { ended, file, found }
+    let ended = tell_found(form, alloc, &file, None, &found, writer);
+    CommandEnd {
+        ended,
+        file,
+        second: None,
+        found,
+    }
 }

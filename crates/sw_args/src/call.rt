@@ -3,6 +3,7 @@ ghost use Rattle.std.specs.Prelude.{◌≡◌};
 ghost use Rattle.sw_args.specs.declared.call.WordsFault.TheVariants.{Memory};
 
 use std::alloc::AllocError;
+use sw_text::statuses::{GOOD, NO_ROOM, REFUSED};
 use thiserror::Error;
 
 /// What the words ask for, with the values as they were written; `json`: the answer is to be one object of JSON.
@@ -115,9 +116,6 @@ pub struct Asked<'a> {
     pub hints: Option<&'a str>,
 }
 
-/// The status of words that are refused.
-pub const REFUSED: u8 = 2;
-
 /// Why the words give no call, with the text to print.
 #[derive(Debug, Drop, Error)]
 pub enum WordsFault {
@@ -140,9 +138,9 @@ impl WordsFault {
         ensures { result ≡ words_status self.now }
     {
         match self {
-            WordsFault::Help(_) => 0,
+            WordsFault::Help(_) => GOOD,
             WordsFault::Refused(_) => REFUSED,
-            WordsFault::Memory => 5,
+            WordsFault::Memory => NO_ROOM,
         }
     }
 }

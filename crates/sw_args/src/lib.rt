@@ -9,7 +9,7 @@ mod parts;
 mod release;
 mod values;
 
-pub use call::{Asked, Call, REFUSED, WordsFault};
+pub use call::{Asked, Call, WordsFault};
 pub use laws::logic_is_told;
 pub use matched::words;
 pub use release::{TOOLCHAIN, VERSION};

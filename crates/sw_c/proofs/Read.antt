@@ -3,18 +3,27 @@ use Rattle.std.proofs.Common.{◌≡◌, ◌<◌, ◌+◌, ◌⊎◌, ℕ, false
 use Rattle.std.proofs.lemmas.List.{append-nil, length-append}
 use Rattle.std.proofs.lemmas.Bool.Decides.{nat_tests}
 use Rattle.sw_output.specs.Lines.{line}
-use Rattle.sw_text.specs.Ends.{Answers, AnswersBy, AnswersByTwo, AnswersToTwo, EndsBy, EndsByTwo, Gives, GivesAll, GivesText, IfShort, OrMemory, Says, limited, most_bytes}
+use Rattle.sw_text.specs.Ends.{Answers, AnswersBy, AnswersByTwo, AnswersToTwo, EndsBy, Gives, GivesAll, GivesText, IfShort, OrMemory, Says, limited, most_bytes}
 use Rattle.sw_text.specs.declared.write_answer.Ended.{Ended}
 use Rattle.sw_text.specs.declared.write_answer.Ended.TheVariants.{Status, ReadFailed, WriteFailed}
-use Rattle.sw_app.specs.CheckAnswers.{AreShownDeadlockFree, ChecksDeadlockFree}
+use Rattle.sw_app.specs.CheckAnswers.{IsCheckAnswer, IsCheckFinding, check_lines, check_status}
+use Rattle.sw_app.specs.ShownDeadlockFree.{AreShownDeadlockFree, ChecksDeadlockFree}
+use Rattle.sw_app.specs.declared.check_finding.CheckFinding.{CheckFinding}
+use Rattle.sw_app.specs.declared.report_finding.ReportFinding.{ReportFinding}
 use Rattle.sw_app.specs.VerdictAnswers.{DecidesDeadlockFree, IsReportAnswer, IsReportFinding, report_lines}
-use Rattle.sw_engine.proofs.LineEnds.{in_lines, memory_line, network_file_in_lines}
-use Rattle.sw_engine.specs.Engines.{AnswersByOne, AnswersInForm, AnswersToOne, EndsByOne}
-use Rattle.sw_json.proofs.ObjectEnds.{fault_told, finding_told, long_told, network_file_as_object}
+use Rattle.sw_engine.proofs.LineEnds.{in_lines, network_file_in_lines, two_files_in_lines, two_in_lines}
+use Rattle.sw_engine.specs.LineAnswers.{memory_line}
+use Rattle.sw_engine.specs.Engines as ends
+use Rattle.sw_engine.specs.Engines.{AnswersByOne, AnswersInForm, AnswersToOne, AnswersToTwoInForm, EndsByOne}
+use Rattle.serde_json.specs.Data.{Data}
+use Rattle.sw_config.specs.Entries.{Declaration}
+use Rattle.sw_json.proofs.ObjectEnds.{fault_of_two_told, fault_told, finding_of_two_told, finding_told, long_of_two_told, long_told, network_file_as_object, two_files_as_object}
+use Rattle.sw_json.specs.ObjectAnswers.{by_value}
 use Rattle.sw_json_verdicts.specs.Release.{Release}
+use Rattle.sw_json_verdicts.specs.CheckResults.{IsCheckJson, check_results}
 use Rattle.sw_json_verdicts.specs.ReportResults.{IsReportJson, found_value}
-use Rattle.sw_json_verdicts.specs.Answering.{EndsByTwoFiles, memory_text}
-use Rattle.sw_json_verdicts.specs.Answering as objects
+use Rattle.sw_json_verdicts.specs.Answering.{Results, memory_text, read_value}
+use Rattle.sw_engine.specs.Tellings.{TellsOr}
 use Rattle.sw_c.specs.Given.{IsEnded, IsGiven, IsGivenSuch, IsObjectEnded, IsObjectGiven}
 
 -- more bytes than the most are not at most so many
@@ -86,13 +95,29 @@ read_all bytes given rest (all, end) = sym (append-nil given) ∙ ap (λ (r : Li
 moved : (Q : Answers) (text told : List ℕ) (number status : ℕ) → text ≡ told → number ≡ status → Q text number → Q told status
 moved Q text told number status same equal may = subst (λ (s : ℕ). Q told s) equal (subst (λ (t : List ℕ). Q t number) same may)
 
+-- the values of the network file alone
+abbrev alone : List ℕ → Option (List ℕ) → List Data
+alone path given = read_value path given ∷ []
+
 -- the answers of `report` in an object, by what it finds
+abbrev report_results : Declaration → ReportFinding → Results
+report_results = by_value (λ d found. found_value d found.findings) (λ _. 0)
+
 abbrev report_in_object : List ℕ → Release → AnswersToOne
 report_in_object path release =
-    AnswersInForm IsReportFinding
-    (finding_told IsReportFinding (λ d found. found_value d found.findings) (λ _. 0) (codes "report") path release)
-    (fault_told IsReportFinding (λ d found. found_value d found.findings) (λ _. 0) (codes "report") path release)
-    (long_told IsReportFinding (λ d found. found_value d found.findings) (λ _. 0) (codes "report") path release)
+    AnswersInForm IsReportFinding (finding_told IsReportFinding report_results (codes "report") path (alone path) release)
+    (fault_told IsReportFinding report_results (codes "report") path (alone path) release)
+    (long_told IsReportFinding report_results (codes "report") path (alone path) release)
+
+-- those of `check`
+abbrev all_check_results : List ℕ → Option (List ℕ) → Declaration → CheckFinding → Results
+all_check_results other second d found = check_results other d found
+
+abbrev check_in_object : List ℕ → List ℕ → Release → AnswersToTwo
+check_in_object path other release =
+    AnswersToTwoInForm IsCheckFinding (finding_of_two_told IsCheckFinding all_check_results (codes "check") path other release)
+    (fault_of_two_told IsCheckFinding all_check_results (codes "check") path other release)
+    (long_of_two_told IsCheckFinding all_check_results (codes "check") path other release)
 
 module _ (old text told room new : List ℕ) (count status : ℕ) (none : old ≡ []) (same : told ≡ text) where
   -- the text that was added to nothing
@@ -110,7 +135,7 @@ module _ (old text told room new : List ℕ) (count status : ℕ) (none : old �
   given_one P bytes rest WriteFailed ends is = (line (codes "fault memory" ∷ []), inr (refl, is.0), is.1)
 
   pub given_two : (P : AnswersToTwo) (first first_rest second second_rest : List ℕ) (ended : Ended)
-      → EndsByTwo P (Some first) (Some first_rest) (Some second) (Some second_rest) (Some old) (Some text) ended
+      → ends.EndsByTwo memory_line P (Some first) (Some first_rest) (Some second) (Some second_rest) (Some old) (Some text) ended
       → IsEnded ended told room new count status → IsGiven (P (limited first) (limited second)) room new count status
   given_two P first first_rest second second_rest (Status n) ends is = (
     told,
@@ -120,7 +145,7 @@ module _ (old text told room new : List ℕ) (count status : ℕ) (none : old �
   given_two P first first_rest second second_rest ReadFailed ends is = (line (codes "fault memory" ∷ []), inr (refl, is.0), is.1)
   given_two P first first_rest second second_rest WriteFailed ends is = (line (codes "fault memory" ∷ []), inr (refl, is.0), is.1)
 
-  pub object_told : (P : Answers) (ended : Ended) → objects.Tells (Some old) (Some text) P ended → IsObjectEnded ended told room new count status → IsObjectGiven P room new count status
+  pub object_told : (P : Answers) (ended : Ended) → TellsOr memory_text P (Some old) (Some text) ended → IsObjectEnded ended told room new count status → IsObjectGiven P room new count status
   object_told P (Status n) ends is = (told, moved (OrObject P) ends.0 told ends.1 status (whole ends.0 ends.3.1) (sym (is.0 ∙ ends.3.0)) ends.2, is.1)
   object_told P ReadFailed ends is = (memory_text, inr (refl, is.0), is.1)
   object_told P WriteFailed ends is = (memory_text, inr (refl, is.0), is.1)
@@ -136,7 +161,7 @@ module _ (old text told room new : List ℕ) (count status : ℕ) (none : old �
   object_of_one P bytes rest WriteFailed ends is = (memory_text, inr (refl, is.0), is.1)
 
   pub object_of_two : (P : AnswersToTwo) (first first_rest second second_rest : List ℕ) (ended : Ended)
-      → EndsByTwoFiles P (Some first) (Some first_rest) (Some second) (Some second_rest) (Some old) (Some text) ended
+      → ends.EndsByTwo memory_text P (Some first) (Some first_rest) (Some second) (Some second_rest) (Some old) (Some text) ended
       → IsObjectEnded ended told room new count status → IsObjectGiven (P (limited first) (limited second)) room new count status
   object_of_two P first first_rest second second_rest (Status n) ends is = (
     told,
@@ -162,8 +187,27 @@ module _ (old text told room new : List ℕ) (count status : ℕ) (none : old �
       → IsObjectEnded ended told room new count status → IsObjectGiven (IsReportJson path release (limited bytes)) room new count status
   report_object_given path release bytes rest ended ends is =
       object_of_one (IsReportJson path release) bytes rest ended
-      (network_file_as_object IsReportFinding (λ d found. found_value d found.findings) (λ _. 0) (codes "report") path release
+      (network_file_as_object IsReportFinding report_results (codes "report") path (alone path) release
       (Some bytes) (Some rest) (Some old) (Some text) ended ends) is
+
+  -- ---- of `check`
+
+  pub check_given : (first first_rest second second_rest : List ℕ) (ended : Ended)
+      → ends.EndsByTwo memory_line (two_in_lines IsCheckFinding check_lines check_status) (Some first) (Some first_rest) (Some second) (Some second_rest)
+      (Some old) (Some text) ended
+      → IsEnded ended told room new count status → IsGiven (IsCheckAnswer (limited first) (limited second)) room new count status
+  check_given first first_rest second second_rest ended is =
+      given_two IsCheckAnswer first first_rest second second_rest ended
+      (two_files_in_lines IsCheckFinding check_lines check_status (Some first) (Some first_rest) (Some second) (Some second_rest) (Some old) (Some text) ended is)
+
+  -- as an object, of the files of these paths
+  pub check_object_given : (path other : List ℕ) (release : Release) (first first_rest second second_rest : List ℕ) (ended : Ended)
+      → ends.EndsByTwo memory_text (check_in_object path other release) (Some first) (Some first_rest) (Some second) (Some second_rest) (Some old) (Some text) ended
+      → IsObjectEnded ended told room new count status → IsObjectGiven (IsCheckJson path other release (limited first) (limited second)) room new count status
+  check_object_given path other release first first_rest second second_rest ended is =
+      object_of_two (IsCheckJson path other release) first first_rest second second_rest ended
+      (two_files_as_object IsCheckFinding all_check_results (codes "check") path other release (Some first) (Some first_rest) (Some second) (Some second_rest)
+      (Some old) (Some text) ended is)
 
   pub object_ended_well : (ended : Ended) → IsObjectEnded ended told room new count status → status ≡ 0 → ended ≡ Status 0
   object_ended_well (Status n) is zero = ap Status (sym is.0 ∙ zero)

@@ -1,6 +1,7 @@
 //! The calls.
 ghost use Rattle.std.specs.Prelude.{◌≡◌};
-ghost use Rattle.sw_app.specs.CheckAnswers.{AreShownDeadlockFree, IsCheckAnswer};
+ghost use Rattle.sw_app.specs.CheckAnswers.{IsCheckAnswer};
+ghost use Rattle.sw_app.specs.ShownDeadlockFree.{AreShownDeadlockFree};
 ghost use Rattle.sw_app.specs.VerdictAnswers.{IsDecideAnswer, IsReportAnswer};
 ghost use Rattle.sw_text.specs.Ends.{IfShort, limited};
 ghost use Rattle.sw_c.specs.Given.{IsGiven, IsGivenSuch};
@@ -49,8 +50,8 @@ pub extern "C" fn swcheck_check(
     let mut first = network;
     let mut second = certificate;
     let mut text = Vec::new(alloc);
-    let ended = check(&OneByOne, alloc, &mut first, &mut second, &mut text);
-    give_ended(ended, &text, answer, length)
+    let end = check(&OneByOne, alloc, &mut first, &mut second, &Lines, &mut text);
+    give_ended(end.into_ended(), &text, answer, length)
 }
 
 /// How many parts the network of a file has, and the verdict on it in one line, of the bytes of the file: 0 whatever the verdict; 3 with

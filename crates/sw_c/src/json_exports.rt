@@ -1,15 +1,16 @@
 //! The calls that answer with an object of JSON.
 ghost use Rattle.std.specs.Prelude.{◌≡◌};
-ghost use Rattle.sw_app.specs.CheckAnswers.{AreShownDeadlockFree};
+ghost use Rattle.sw_app.specs.ShownDeadlockFree.{AreShownDeadlockFree};
 ghost use Rattle.sw_c.specs.Objects.{IsCheckGiven, IsDecideGiven, IsReportGiven};
 
 use crate::answers::give_object;
 use crate::at_hand::AtHand;
 use std::alloc::Global;
-use sw_app::report;
+use sw_app::{check, report};
 use sw_args::{TOOLCHAIN, VERSION};
 use sw_graph::OneByOne;
-use sw_json_verdicts::{AuditOptions, Release, VerdictObject, audit_one, check};
+use sw_json::ObjectForm;
+use sw_json_verdicts::{AuditOptions, Release, VerdictObject, audit_one};
 
 // This release, and the toolchain that makes it.
 const RELEASE: Release<'static> = Release {
@@ -39,8 +40,8 @@ pub extern "C" fn swcheck_decide_json(
 {
     let bytes = AtHand { bytes: network };
     let mut text = Vec::new(alloc);
-    let ended = audit_one(&OneByOne, alloc, &bytes, "network", &OPTIONS, &mut text);
-    give_object(ended, &text, answer, length)
+    let end = audit_one(&OneByOne, alloc, &bytes, "network", &OPTIONS, &mut text);
+    give_object(end.into_ended(), &text, answer, length)
 }
 
 /// Whether the certificate is accepted for the network, as an object, with the statuses of `swcheck_check`.
@@ -60,17 +61,15 @@ pub extern "C" fn swcheck_check_json(
     let mut first = network;
     let mut second = certificate;
     let mut text = Vec::new(alloc);
-    let paths = ("network", "certificate");
-    let ended = check(
-        &OneByOne,
-        alloc,
-        &mut first,
-        &mut second,
-        paths,
-        RELEASE,
-        &mut text,
-    );
-    give_object(ended, &text, answer, length)
+    let form = VerdictObject {
+        object: ObjectForm {
+            path: "network",
+            second: Some("certificate"),
+            release: RELEASE,
+        },
+    };
+    let end = check(&OneByOne, alloc, &mut first, &mut second, &form, &mut text);
+    give_object(end.into_ended(), &text, answer, length)
 }
 
 /// How many parts the network of a file has, and the verdict on it, as an object, with the statuses of `swcheck_report`.
@@ -88,8 +87,11 @@ pub extern "C" fn swcheck_report_json(
     let mut reader = network;
     let mut text = Vec::new(alloc);
     let form = VerdictObject {
-        path: "network",
-        release: RELEASE,
+        object: ObjectForm {
+            path: "network",
+            second: None,
+            release: RELEASE,
+        },
     };
     let ended = report(&OneByOne, alloc, &mut reader, &form, &mut text).into_ended();
     give_object(ended, &text, answer, length)

@@ -8,17 +8,18 @@ use Rattle.sw_engine.specs.LineAnswers.{IsFileToldInLines}
 use Rattle.sw_engine.specs.Tellings.{Findings, HoldsOfFound}
 use Rattle.sw_engine.specs.declared.network_file.NetworkFile.{NetworkFile}
 use Rattle.sw_engine.specs.declared.network_file.NetworkFile.TheVariants.{Unread}
-use Rattle.sw_text.specs.Ends.{Answers}
+use Rattle.sw_text.specs.Ends.{Answers, AnswersToTwo}
+use Rattle.sw_text.specs.declared.read_texts.InputText.{InputText}
 use Rattle.sw_text.specs.declared.write_answer.Ended.{Ended}
 use Rattle.sw_text.specs.declared.write_answer.Ended.TheVariants.{Status, ReadFailed}
-use Rattle.sw_calls.specs.Files.{ChecksFilesDeadlockFree, DecidesFileDeadlockFree, EndsByNetworkFile}
+use Rattle.sw_calls.specs.Files.{ChecksFilesDeadlockFree, DecidesFileDeadlockFree, EndsByFiles, EndsByNetworkFile}
 
 -- what ended with a read that failed has no status
 no_status : ReadFailed ≡ Status 0 → ⊥
 no_status is = absurd cc
 
-pub unread_checks : ChecksFilesDeadlockFree ReadFailed
-unread_checks is = absurd (no_status is)
+pub unread_checks : (ended : Ended) → ended ≡ ReadFailed → ChecksFilesDeadlockFree ended
+unread_checks ended unread is = absurd (no_status (sym unread ∙ is))
 
 pub unread_decides : (old new : Option (List ℕ)) (ended : Ended) → ended ≡ ReadFailed → DecidesFileDeadlockFree old new ended
 unread_decides old new ended unread is = absurd (no_status (sym unread ∙ is))
@@ -33,6 +34,11 @@ pub unread_ends : (P : List ℕ → Answers) (old : Option (List ℕ)) (file : N
     → EndsByNetworkFile P file old old ended
 unread_ends P old file ended is unread =
     at_unread (λ f e. EndsByNetworkFile P f old old e) file ended is unread (None, None, Keeps-refl old, tt)
+
+pub unread_two_end : (P : AnswersToTwo) (old : Option (List ℕ)) (file : NetworkFile) (input : Option InputText) (ended : Ended) → file ≡ Unread
+    → ended ≡ ReadFailed → EndsByFiles P file input old old ended
+unread_two_end P old file input ended is unread =
+    at_unread (λ f e. EndsByFiles P f input old old e) file ended is unread (None, None, None, None, Keeps-refl old, tt)
 
 pub unread_holds : {X : Type 0} (Finds : Declaration → X → Type 0) (found : Findings X) (file : NetworkFile) → file ≡ Unread
     → HoldsOfFound Finds (network_of file) found

@@ -1,11 +1,14 @@
 -- What a call on files may tell. No clause says which bytes a file's reader gives: here they are any bytes, and not those of the file.
 use Rattle.std.specs.Prelude.{◌≡◌, ℕ, List, Option, Some, None}
+use Rattle.sw_text.specs.declared.read_texts.InputText.{InputText}
 use Rattle.sw_text.specs.declared.write_answer.Ended.{Ended}
 use Rattle.sw_text.specs.declared.write_answer.Ended.TheVariants.{Status}
-use Rattle.sw_text.specs.Ends.{Answers, AnswersToTwo, EndsBy, EndsByTwo, IsTold}
-use Rattle.sw_engine.specs.Files.{IsFileRead}
+use Rattle.sw_text.specs.Ends.{Answers, AnswersToTwo, EndsBy, IsTold}
+use Rattle.sw_engine.specs.Engines.{EndsByTwo}
+use Rattle.sw_engine.specs.Files.{AreFilesRead, IsFileRead}
+use Rattle.sw_engine.specs.LineAnswers.{memory_line}
 use Rattle.sw_engine.specs.declared.network_file.NetworkFile.{NetworkFile}
-use Rattle.sw_app.specs.CheckAnswers.{ChecksDeadlockFree}
+use Rattle.sw_app.specs.ShownDeadlockFree.{ChecksDeadlockFree}
 use Rattle.sw_app.specs.VerdictAnswers.{DecidesDeadlockFree}
 use Rattle.sw_app.specs.Samples.{sample_text}
 use Rattle.sw_app.specs.declared.samples.Sample.{Sample}
@@ -19,11 +22,11 @@ abbrev pub EndsByNetworkFile : (List ℕ → Answers) → NetworkFile → Option
 EndsByNetworkFile P file old new ended =
     (before : Option (List ℕ)) × (after : Option (List ℕ)) × EndsBy P before after old new ended × IsFileRead before after file
 
--- an answer to what two readers may give was told, or a read failed
-abbrev pub EndsByFiles : AnswersToTwo → Option (List ℕ) → Option (List ℕ) → Ended → Type 0
-EndsByFiles P old new ended =
+-- an answer to what two readers may give was told, or a read failed; and what was read by the same readers
+abbrev pub EndsByFiles : AnswersToTwo → NetworkFile → Option InputText → Option (List ℕ) → Option (List ℕ) → Ended → Type 0
+EndsByFiles P file input old new ended =
     (first : Option (List ℕ)) × (first_after : Option (List ℕ)) × (second : Option (List ℕ)) × (second_after : Option (List ℕ))
-    × EndsByTwo P first first_after second second_after old new ended
+    × EndsByTwo memory_line P first first_after second second_after old new ended × AreFilesRead first first_after second second_after file input
 
 -- with status 0 there is a network of which a certificate was written, and which never locks up
 abbrev pub DecidesFileDeadlockFree : Option (List ℕ) → Option (List ℕ) → Ended → Type 0

@@ -1,22 +1,23 @@
 //! The calls of the engines of `sw_app` on files.
-ghost use Rattle.std.specs.Prelude.{◌≡◌, option_map};
-ghost use Rattle.sw_app.specs.CheckAnswers.{IsCheckAnswer};
+ghost use Rattle.std.specs.Prelude.{◌≡◌, Err, IfSome, option_map};
+ghost use Rattle.sw_app.specs.CheckAnswers.{IsCheckAnswer, IsCheckFinding, check_lines, check_status};
 ghost use Rattle.sw_app.specs.MigrateAnswers.{IsMigrateAnswer};
 ghost use Rattle.sw_app.specs.RouteAnswers.{IsRouteAnswer, IsRouteFinding, route_lines, route_status};
 ghost use Rattle.sw_app.specs.Samples.{sample_named};
 ghost use Rattle.sw_app.specs.VerdictAnswers.{IsDecideAnswer, IsDecideFinding, IsReportAnswer, IsReportFinding, decide_lines, decide_status, report_lines};
 ghost use Rattle.sw_calls.specs.Files.{ChecksFilesDeadlockFree, DecidesFileDeadlockFree, EndsByFile, EndsByFiles, EndsByNetworkFile, EndsBySample};
-ghost use Rattle.sw_engine.specs.Files.{network_of};
+ghost use Rattle.sw_engine.specs.Files.{network_of, second_given};
 ghost use Rattle.sw_engine.specs.LineAnswers.{IsFileToldInLines};
 ghost use Rattle.sw_engine.specs.Tellings.{HoldsOfFound};
+ghost use Rattle.sw_file.specs.Network.{network_text};
 
 use crate::told::tell_refused;
 use std::fs;
 use std::io::Write;
 use std::rt::Files;
 use sw_app::{
-    DecideFinding, ReportFinding, RouteFinding, VerdictWorkers, check, decide, init, migrate,
-    report, route, sample_named,
+    CheckFinding, DecideFinding, MigrateEnd, ReportFinding, RouteFinding, VerdictWorkers, check,
+    decide, init, migrate, report, route, sample_named,
 };
 use sw_engine::{CommandEnd, Lines};
 use sw_text::Ended;
@@ -80,25 +81,40 @@ pub fn check_files<R: Files + AllocGlobal, C: VerdictWorkers, W: Write>(
     file: &str,
     path: &str,
     writer: &mut W,
-) -> Ended
-    ensures answer { EndsByFiles IsCheckAnswer (W.contents writer.old) (W.contents writer.new) result }
-    ensures deadlock_free { ChecksFilesDeadlockFree result }
+) -> CommandEnd<CheckFinding>
+    ensures read { EndsByFiles IsCheckAnswer result.file result.second (W.contents writer.old) (W.contents writer.new) result.ended }
+    ensures found { HoldsOfFound (IsCheckFinding (second_given result.second)) (network_of result.file) result.found }
+    ensures told { IsFileToldInLines check_lines check_status result.file result.found (W.contents writer.old) (W.contents writer.new) result.ended }
+    ensures deadlock_free { ChecksFilesDeadlockFree result.ended }
 {
     let Ok(mut network) = fs::open(rt, file) else {
-        return Ended::ReadFailed;
+        return CommandEnd::of_unread();
     };
     let Ok(mut certificate) = fs::open(rt, path) else {
-        return Ended::ReadFailed;
+        return CommandEnd::of_unread();
     };
-    check(workers, rt.alloc(), &mut network, &mut certificate, writer)
+    let alloc = rt.alloc();
+    check(
+        workers,
+        alloc,
+        &mut network,
+        &mut certificate,
+        &Lines,
+        writer,
+    )
 }
 
 /// The network file of version 1 as one of version 2.
-pub fn migrate_file<R: Files + AllocGlobal, W: Write>(rt: &R, file: &str, writer: &mut W) -> Ended
-    ensures { EndsByFile IsMigrateAnswer (W.contents writer.old) (W.contents writer.new) result }
+pub fn migrate_file<R: Files + AllocGlobal, W: Write>(
+    rt: &R,
+    file: &str,
+    writer: &mut W,
+) -> MigrateEnd
+    ensures read { EndsByFile IsMigrateAnswer (W.contents writer.old) (W.contents writer.new) result.ended }
+    ensures faulty { IfSome result.faulty (λ read. network_text read.text.items ≡ Err read.fault) }
 {
     let Ok(mut reader) = fs::open(rt, file) else {
-        return Ended::ReadFailed;
+        return MigrateEnd::bare(Ended::ReadFailed);
     };
     migrate(rt.alloc(), &mut reader, writer)
 }

@@ -3,8 +3,9 @@ ghost use Rattle.std.specs.Prelude.{◌≡◌, ◌⊎◌};
 ghost use Rattle.sw_args.specs.CommandLine.{words_status};
 ghost use Rattle.sw_text.specs.Ends.{exit_status};
 
-use sw_args::{REFUSED, WordsFault};
+use sw_args::WordsFault;
 use sw_text::Ended;
+use sw_text::statuses::REFUSED;
 
 /// Tells of a read or a write that failed. How the call ended stays as it is.
 pub fn told_end(rt: &impl Eprint, ended: Ended) -> Ended

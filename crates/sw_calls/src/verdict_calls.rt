@@ -69,8 +69,8 @@ fn run_call<R: Files + Eprint + AllocGlobal, C: VerdictWorkers, W: Write>(
             file,
             certificate,
             json: false,
-        } => check_files(rt, workers, file, certificate, writer),
-        Call::Migrate { file } => migrate_file(rt, file, writer),
+        } => check_files(rt, workers, file, certificate, writer).into_ended(),
+        Call::Migrate { file } => migrate_file(rt, file, writer).ended,
         Call::Init { name } => write_sample(rt, name, writer),
         _ => tell_refused(rt, OTHER_CALL),
     }

@@ -2,11 +2,11 @@
 use Rattle.std.specs.Prelude.{◌≡◌, ℕ, suc, Bool, true, false, List, [], ◌∷◌, Result, Ok, Err, if◌then◌else◌, ◌==◌, ◌&&◌, length, ◌↔◌}
 use Rattle.std.specs.Option.{option_map_or}
 use Rattle.std.specs.List.{slice_split}
+use Rattle.sw_text.specs.declared.fault.OrMemory.{OrMemory}
+use Rattle.sw_text.specs.Gives.{Fails}
 use Rattle.sw_flow.specs.declared.place.Place.{Place}
 use Rattle.sw_cert.specs.declared.lines.Expected.{Expected}
 use Rattle.sw_cert.specs.declared.lines.Expected.TheVariants.{Flows, Title, Nothing}
-use Rattle.sw_cert.specs.declared.certificate.CertificateFault.{CertificateFault}
-use Rattle.sw_cert.specs.declared.certificate.CertificateFault.TheVariants as faults
 use Rattle.sw_cert.specs.Grammar.{spelling, HasText}
 use Rattle.sw_cert.specs.Reading.{State, next}
 
@@ -51,11 +51,10 @@ abbrev pub OneSpelling : Type 0
 OneSpelling = (text : List ℕ) (c : Contents) → Says text c ↔ ((text ≡ spelling c.numbers c.places) × HasText c.numbers c.places)
 
 -- What a reading gave: what was read, or the first wrong line, unless memory ran out.
-abbrev pub Gives : Result State ℕ → Result Contents CertificateFault → Type 0
+abbrev pub Gives : Result State ℕ → Result Contents (OrMemory ℕ) → Type 0
 Gives r (Ok c) = (d : State) × (r ≡ Ok d) × (contents_of d ≡ c)
-Gives r (Err (faults.Grammar line)) = r ≡ Err line
-Gives r (Err faults.Memory) = Unit {0}
+Gives r (Err fault) = Fails fault r
 
 -- what reading a text gave
-abbrev pub Reads : List ℕ → Result Contents CertificateFault → Type 0
+abbrev pub Reads : List ℕ → Result Contents (OrMemory ℕ) → Type 0
 Reads text result = Gives (read_text text) result

@@ -6,42 +6,21 @@ ghost use Rattle.sw_cert.specs.Parts.{read_rest};
 ghost use Rattle.sw_cert.specs.Reading.{state_of};
 ghost use Rattle.sw_cert.specs.Text.{Gives};
 ghost use Rattle.sw_cert.specs.Sound.{IsSound};
-ghost use Rattle.sw_cert.specs.declared.certificate.CertificateFault.TheVariants.{Memory};
 
 use crate::draft::Draft;
 use crate::lines::Expected;
 use crate::parts::{ReadWorkers, parts_of};
 use crate::reading::{read_lines, take_lists};
 use crate::write::spelled;
-use std::alloc::{AllocError, AllocFailed, Global};
+use std::alloc::{AllocError, Global};
 use std::marker::Model;
 use sw_flow::Place;
 use sw_graph::OneByOne;
+use sw_text::OrMemory;
 
-/// Why a certificate is refused.
-#[derive(Debug, Drop)]
-pub enum CertificateFault {
-    /// This line, counted from 1, is the first that is not as the grammar asks after the lines before it.
-    Grammar(usize),
-    /// Want of memory.
-    Memory,
-}
-
-impl From<AllocError> for CertificateFault {
-    ghost from_gives = { λ _ e. e ≡ Memory };
-
-    fn from(_error: AllocError) -> CertificateFault {
-        CertificateFault::Memory
-    }
-}
-
-impl<T: Drop> From<AllocFailed<T>> for CertificateFault {
-    ghost from_gives = { λ _ e. e ≡ Memory };
-
-    fn from(_error: AllocFailed<T>) -> CertificateFault {
-        CertificateFault::Memory
-    }
-}
+/// The number of the first line of a certificate, counted from 1, that is not as the grammar asks
+/// after the lines before it, or want of memory.
+pub type CertificateFault = OrMemory<usize>;
 
 /// A number for each channel, and for each flow the places that its packets may reach.
 #[derive(Drop)]
@@ -70,7 +49,7 @@ fn finished(draft: Draft, rest: &[u8], number: usize) -> Result<Certificate, Cer
     ensures { Gives (read_rest number (state_of draft) rest.now) result }
 {
     if !matches!(draft.expected, Expected::Nothing) || !rest.is_empty() {
-        return Err(CertificateFault::Grammar(number));
+        return Err(CertificateFault::Fault(number));
     }
     Ok(Certificate {
         numbers: draft.numbers,
@@ -106,7 +85,7 @@ impl Certificate {
     ///
     /// # Errors
     ///
-    /// `Grammar`: this line, counted from 1, is the first that is not as the grammar asks after the
+    /// `Fault`: this line, counted from 1, is the first that is not as the grammar asks after the
     /// lines before it. `Memory`: there is no memory for what the text says; this tells nothing of
     /// the text.
     pub fn read_by<W: ReadWorkers>(

@@ -87,7 +87,7 @@ fn lists_of(alloc: Global, text: &[u8], part: TextPart) -> Result<Option<Lists>,
     let mut draft = Draft::new(alloc, Expected::Flows(MAX_WAYS));
     match read_lines(alloc, &mut draft, bytes, 0, true) {
         Ok((rest, lines)) => Ok(whole_lists(draft, part, rest, lines)),
-        Err(CertificateFault::Grammar(_)) => Ok(None),
+        Err(CertificateFault::Fault(_)) => Ok(None),
         Err(CertificateFault::Memory) => Err(AllocError),
     }
 }

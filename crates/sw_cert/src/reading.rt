@@ -34,7 +34,7 @@ pub(crate) fn read_lines<'a>(
             return Ok((rest, number));
         }
         if !draft.read_line(alloc, line)? {
-            return Err(CertificateFault::Grammar(number));
+            return Err(CertificateFault::Fault(number));
         }
         rest = more;
         number += 1;

@@ -9,6 +9,5 @@ mod MendPlain
 mod MendOnce
 mod LossValues
 mod MarginPlain
-mod BendValues
 mod MarginOnce
 pub mod ToldMends

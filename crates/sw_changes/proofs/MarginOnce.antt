@@ -1,5 +1,5 @@
 -- `margin` has one answer, with the status of the text answer.
-use Rattle.std.proofs.Common.{◌≡◌, ◌∙◌, ℕ, List, Vec, Global, ap, codes, map, refl}
+use Rattle.std.proofs.Common.{◌≡◌, ◌∙◌, ℕ, List, Vec, Global, ap, codes, map, refl, [], ◌∷◌}
 use Rattle.serde_json.specs.Data.{Data, array, object, string, member, no_members}
 use Rattle.serde_json.specs.View.{items_of}
 use Rattle.sw_changes.proofs.OneMarginAnswer.{not_both}
@@ -9,7 +9,9 @@ use Rattle.sw_changes.specs.MarginValues.{answered_value, flow_limit_value, loss
 use Rattle.sw_changes.specs.declared.margin_finding.MarginFinding.{MarginFinding}
 use Rattle.sw_changes.specs.declared.margin_finding.MarginFinding.TheVariants.{NotFree, Free}
 use Rattle.sw_config.specs.Entries.{Declaration}
-use Rattle.sw_json.proofs.OneObject.{one_object, status_of_lines}
+use Rattle.sw_json.proofs.OneObject.{one_object, status_of_lines, value_once}
+use Rattle.sw_json.specs.Answering.{read_value}
+use Rattle.sw_json.specs.ObjectAnswers.{by_value}
 use Rattle.sw_json.proofs.OneVerdict.{one_verdict_value}
 use Rattle.sw_margin.specs.Laws.{AnswersAreDetermined, FlowLimitsAreDetermined, LossesAreDetermined, StallsAreDetermined}
 use Rattle.sw_margin.specs.declared.bend.Bend.{Bend}
@@ -50,8 +52,10 @@ module _ (one_stalls : StallsAreDetermined) (one_answers : AnswersAreDetermined)
 
   pub margin_has_one_answer : MarginHasOneAnswer
   margin_has_one_answer path release given =
-      one_object IsMarginFinding margin_value (λ _. 0) (λ d f g h k. refl) one_value (codes "margin") path release given
+      one_object IsMarginFinding (by_value margin_value (λ _. 0)) (codes "margin") path (λ read. read_value path read ∷ []) release
+      (λ d. value_once IsMarginFinding margin_value (λ _. 0) (λ d f g h k. refl) d (one_value d)) given
 
 pub margin_has_status_of_text : MarginHasStatusOfText
 margin_has_status_of_text path release given =
-    status_of_lines IsMarginFinding margin_value (λ _. 0) (λ d f g h k. refl) IsMarginFinding margin_lines (λ _. 0) (λ d f g h k. refl) (codes "margin") path release given
+    status_of_lines IsMarginFinding (by_value margin_value (λ _. 0)) (codes "margin") path (λ read. read_value path read ∷ []) release (λ _. 0)
+    (λ d f value status is. is.1) IsMarginFinding margin_lines (λ _. 0) (λ d f g h k. refl) given

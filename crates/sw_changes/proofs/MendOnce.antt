@@ -1,5 +1,5 @@
 -- `mend` has one answer, with the status of the text answer.
-use Rattle.std.proofs.Common.{◌≡◌, ℕ, Bool, List, ◌++◌, ap, append_assoc, codes, map, refl, sym}
+use Rattle.std.proofs.Common.{◌≡◌, ℕ, Bool, List, ◌++◌, ap, append_assoc, codes, map, refl, sym, [], ◌∷◌}
 use Rattle.sw_changes.proofs.OneMending.{one_status, same_pairs}
 use Rattle.sw_changes.specs.declared.mending.Mending.{Mending}
 use Rattle.sw_changes.specs.declared.mending.Mending.TheVariants.{Misrouted, Free, Cyclic}
@@ -7,7 +7,9 @@ use Rattle.sw_changes.specs.MendLaws as text_laws
 use Rattle.sw_changes.specs.MendTexts.{change_words, mending_status, mending_text}
 use Rattle.sw_changes.specs.Mendings.{IsMending}
 use Rattle.sw_config.specs.Entries.{Declaration}
-use Rattle.sw_json.proofs.OneObject.{one_object, status_of_lines}
+use Rattle.sw_json.proofs.OneObject.{one_object, status_of_lines, value_once}
+use Rattle.sw_json.specs.Answering.{read_value}
+use Rattle.sw_json.specs.ObjectAnswers.{by_value}
 use Rattle.sw_search.specs.declared.verdict.Verdict.TheVariants as verdict
 use Rattle.sw_json.specs.VerdictValues.{verdict_value}
 use Rattle.sw_changes.specs.MendValueLaws.{MendHasOneAnswer, MendHasStatusOfText, MendTextsAreLines}
@@ -27,12 +29,13 @@ module _ (one_mending : text_laws.MendingsAreDetermined) where
 
   pub mend_has_one_answer : MendHasOneAnswer
   mend_has_one_answer pairs path release given =
-      one_object (IsMending pairs) mending_value mending_status (statuses pairs) (λ d m n h k. one_value d m n (one_mending pairs d m n h k)) (codes "mend") path release
-      given
+      one_object (IsMending pairs) (by_value mending_value mending_status) (codes "mend") path (λ read. read_value path read ∷ []) release
+      (λ d. value_once (IsMending pairs) mending_value mending_status (statuses pairs) d (λ m n h k. one_value d m n (one_mending pairs d m n h k))) given
 
   pub mend_has_status_of_text : MendHasStatusOfText
   mend_has_status_of_text pairs path release given =
-      status_of_lines (IsMending pairs) mending_value mending_status (statuses pairs) (IsMending pairs) mending_text mending_status (statuses pairs) (codes "mend") path release given
+      status_of_lines (IsMending pairs) (by_value mending_value mending_status) (codes "mend") path (λ read. read_value path read ∷ []) release mending_status
+      (λ d m value status is. is.1) (IsMending pairs) mending_text mending_status (statuses pairs) given
 
 -- ---- the lines
 

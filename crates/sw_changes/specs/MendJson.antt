@@ -3,7 +3,7 @@ use Rattle.std.specs.Prelude.{Bool, ℕ, List, codes}
 use Rattle.sw_changes.specs.Mendings.{IsMending}
 use Rattle.sw_changes.specs.MendTexts.{mending_status}
 use Rattle.sw_changes.specs.MendValues.{mending_value}
-use Rattle.sw_json.specs.Answering.{AnswersToOne}
+use Rattle.sw_engine.specs.Engines.{AnswersToOne}
 use Rattle.sw_json.specs.ObjectAnswers.{NetworkFileAsObject}
 use Rattle.sw_json.specs.declared.files.Release.{Release}
 

@@ -7,7 +7,7 @@ use crate::limiting_texts::limiting_words;
 use serde_json::Value;
 use std::alloc::{AllocError, Global};
 use sw_config::Network;
-use sw_json::{Member, add_value, object_of_three, object_of_two};
+use sw_json::{Member, add_value, object_of};
 use sw_mend::{Limiting, TargetSlots};
 use sw_output::node_name;
 
@@ -15,11 +15,11 @@ use sw_output::node_name;
 fn most_value(alloc: Global, most: u16) -> Result<Value, AllocError>
     ensures { IfOk result (λ v. view v ≡ most_value most) }
 {
-    object_of_two(
-        alloc,
+    let members = vec![in alloc;
         ("kind", Member::Text("limit")),
         ("outstanding", Member::Number(u64::from(most))),
-    )
+    ]?;
+    object_of(alloc, members)
 }
 
 // The same, if there is such a limit.
@@ -42,12 +42,12 @@ fn target_slots_value(
     ensures { IfOk result (λ v. view v ≡ target_slots_value network.now more.now) }
 {
     let name = node_name(network, more.node);
-    object_of_three(
-        alloc,
+    let members = vec![in alloc;
         ("kind", Member::Text("slots")),
         ("node", Member::Text(name)),
         ("slots", Member::Number(u64::from(more.slots))),
-    )
+    ]?;
+    object_of(alloc, members)
 }
 
 // Adds the same of each of these.

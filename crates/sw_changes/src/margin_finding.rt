@@ -1,9 +1,10 @@
 //! What `margin` finds, and its engine.
-ghost use Rattle.std.specs.Prelude.{◌≡◌, IfOk, codes, string_bytes};
+ghost use Rattle.std.specs.Prelude.{◌≡◌, IfOk, codes, string_bytes, None};
 ghost use Rattle.serde_json.specs.View.{view};
 ghost use Rattle.sw_engine.specs.Engines.{AnswersInForm, EndsByOne};
 ghost use Rattle.sw_engine.specs.Files.{IsFileRead, network_of};
-ghost use Rattle.sw_engine.specs.Tellings.{HoldsOfFound};
+ghost use Rattle.sw_engine.specs.Tellings.{AnswersToFile, HoldsOfFound, IsFileTold};
+ghost use Rattle.sw_json.specs.Answering.{IsCommandOutcome};
 ghost use Rattle.sw_changes.specs.MarginAnswers.{IsMarginFinding, margin_lines, margin_value};
 
 use crate::margin_texts::margin_text;
@@ -15,7 +16,7 @@ use std::io::{Read, Write};
 use sw_config::Network;
 use sw_engine::{AsLines, CommandEnd, Finding, Form, read_network_file, tell_found};
 use sw_json::laws::verdicts_are_plain;
-use sw_json::{AsValue, CommandOutcome, verdict_value};
+use sw_json::{AsValue, CommandOutcome, SecondFile, verdict_value};
 use sw_margin::{Margins, margins};
 use sw_output::misrouted_text;
 use sw_search::{Verdict, VerdictWorkers, decide};
@@ -52,13 +53,18 @@ impl AsLines for MarginFinding {
 impl AsValue for MarginFinding {
     ghost command = { codes "margin" };
 
-    ghost value_of = { margin_value };
+    ghost results_of = { λ _ _ d f. IsCommandOutcome (margin_value d f) 0 };
 
     fn command() -> &'static str {
         "margin"
     }
 
-    fn outcome(&self, alloc: Global, network: &Network) -> Result<CommandOutcome, AllocError> {
+    fn outcome(
+        &self,
+        alloc: Global,
+        _second: SecondFile<'_>,
+        network: &Network,
+    ) -> Result<CommandOutcome, AllocError> {
         margins_are_plain();
         verdicts_are_plain();
         let result = self.value(alloc, network)?;
@@ -67,6 +73,8 @@ impl AsValue for MarginFinding {
             status: GOOD,
         })
     }
+
+    ghost result_has_status = { λ _ _ _ _ _ _ is. is.1 };
 }
 
 impl MarginFinding {
@@ -123,15 +131,21 @@ pub fn margin<T: VerdictWorkers, R: Read, F: Form<MarginFinding>, W: Write>(
     form: &F,
     writer: &mut W,
 ) -> CommandEnd<MarginFinding>
-    ensures ended { EndsByOne F.memory (AnswersInForm IsMarginFinding (F.tells form.now) (F.faulty form.now) (F.long form.now)) (R.remaining reader.old) (R.remaining reader.new) (W.contents writer.old) (W.contents writer.new) result.ended }
+    ensures ended { EndsByOne F.memory (AnswersInForm IsMarginFinding (F.tells form.now None) (F.faulty form.now None) (F.long form.now None)) (R.remaining reader.old) (R.remaining reader.new) (W.contents writer.old) (W.contents writer.new) result.ended }
     ensures read { IsFileRead (R.remaining reader.old) (R.remaining reader.new) result.file }
     ensures found { HoldsOfFound IsMarginFinding (network_of result.file) result.found }
+    ensures told { IsFileTold F.memory (AnswersToFile (F.tells form.now None) (F.faulty form.now None) (F.long form.now None) result.file result.found) result.file (W.contents writer.old) (W.contents writer.new) result.ended }
 {
     let file = read_network_file(alloc, reader);
     let found = match file.network() {
         Some(network) => Some(find(workers, alloc, network)),
         None => None,
     };
-    let ended = tell_found(form, alloc, &file, &found, writer);
-    CommandEnd { ended, file, found }
+    let ended = tell_found(form, alloc, &file, None, &found, writer);
+    CommandEnd {
+        ended,
+        file,
+        second: None,
+        found,
+    }
 }

@@ -9,10 +9,7 @@ ghost use Rattle.sw_changes.specs.MarginValues.{answered_value, flow_limit_value
 use serde_json::Value;
 use std::alloc::{AllocError, Global};
 use sw_config::Network;
-use sw_json::{
-    Member, add_value, finish_text, flow_name_values, object_of_five, object_of_four,
-    object_of_two, start_text,
-};
+use sw_json::{Member, add_value, finish_text, flow_name_values, object_of, start_text};
 use sw_margin::{Bend, FlowLimit, Margins};
 use sw_output::{flow_name, node_name};
 use sw_topo::Chan;
@@ -34,13 +31,13 @@ fn loss_value(
     let start = start_text(alloc, network, channel)?;
     let names = flow_name_values(alloc, network, flows)?;
     let number = channel.number();
-    object_of_four(
-        alloc,
+    let members = vec![in alloc;
         ("channel", Member::Number(u64::from(number))),
         ("end", Member::Value(Value::String(end))),
         ("flows", Member::Value(Value::Array(names))),
         ("start", Member::Value(Value::String(start))),
-    )
+    ]?;
+    object_of(alloc, members)
 }
 
 // An object for each link.
@@ -68,10 +65,9 @@ fn stall_list(alloc: Global, network: &Network, stalls: &[Bend]) -> Result<Vec<V
     for bend in stalls {
         let free = bend.stays_free;
         let name = node_name(network, bend.number);
-        let value = object_of_two(
+        let value = object_of(
             alloc,
-            ("free", Member::Truth(free)),
-            ("node", Member::Text(name)),
+            vec![in alloc; ("free", Member::Truth(free)), ("node", Member::Text(name))]?,
         );
         add_value(&mut values, value)?;
     }
@@ -86,10 +82,9 @@ fn answer_list(alloc: Global, network: &Network, answers: &[Bend]) -> Result<Vec
     for bend in answers {
         let free = bend.stays_free;
         let name = flow_name(network, bend.number);
-        let value = object_of_two(
+        let value = object_of(
             alloc,
-            ("flow", Member::Text(name)),
-            ("free", Member::Truth(free)),
+            vec![in alloc; ("flow", Member::Text(name)), ("free", Member::Truth(free))]?,
         );
         add_value(&mut values, value)?;
     }
@@ -106,6 +101,16 @@ fn most_value(most: Option<u16>) -> Member<'static>
     }
 }
 
+// The greatest limit of a flow with which the network stays free.
+fn limit_value(alloc: Global, network: &Network, limit: &FlowLimit) -> Result<Value, AllocError>
+    ensures { IfOk result (λ v. view v ≡ flow_limit_value network.now limit.now) }
+{
+    let name = flow_name(network, limit.flow);
+    let most = most_value(limit.most);
+    let members = vec![in alloc; ("flow", Member::Text(name)), ("outstanding", most)]?;
+    object_of(alloc, members)
+}
+
 // An object for each flow with a limit of its own.
 fn limit_list(
     alloc: Global,
@@ -116,10 +121,7 @@ fn limit_list(
 {
     let mut values = Vec::new(alloc);
     for limit in limits {
-        let name = flow_name(network, limit.flow);
-        let most = most_value(limit.most);
-        let value = object_of_two(alloc, ("flow", Member::Text(name)), ("outstanding", most));
-        add_value(&mut values, value)?;
+        add_value(&mut values, limit_value(alloc, network, limit))?;
     }
     Ok(values)
 }
@@ -137,12 +139,12 @@ pub(crate) fn margins_value(
     let limits = limit_list(alloc, network, &told.limits)?;
     let losses = loss_list(alloc, network, &told.losses)?;
     let stalls = stall_list(alloc, network, &told.stalls)?;
-    object_of_five(
-        alloc,
+    let members = vec![in alloc;
         ("answers", Member::Value(Value::Array(answers))),
         ("kind", Member::Text("margins")),
         ("limits", Member::Value(Value::Array(limits))),
         ("losses", Member::Value(Value::Array(losses))),
         ("stalls", Member::Value(Value::Array(stalls))),
-    )
+    ]?;
+    object_of(alloc, members)
 }

@@ -1,8 +1,9 @@
 //! What `mend` finds, told, and its engine.
-ghost use Rattle.std.specs.Prelude.{◌≡◌, IfOk, codes};
+ghost use Rattle.std.specs.Prelude.{◌≡◌, IfOk, codes, None};
 ghost use Rattle.sw_engine.specs.Engines.{AnswersInForm, EndsByOne};
 ghost use Rattle.sw_engine.specs.Files.{IsFileRead, network_of};
-ghost use Rattle.sw_engine.specs.Tellings.{HoldsOfFound};
+ghost use Rattle.sw_engine.specs.Tellings.{AnswersToFile, HoldsOfFound, IsFileTold};
+ghost use Rattle.sw_json.specs.Answering.{IsCommandOutcome};
 ghost use Rattle.sw_changes.specs.Mendings.{IsMending, IsMendingOf};
 ghost use Rattle.sw_changes.specs.MendTexts.{mending_status, mending_text};
 ghost use Rattle.sw_changes.specs.MendValues.{mending_value};
@@ -16,7 +17,7 @@ use std::io::{Read, Write};
 use sw_config::Network;
 use sw_engine::{AsLines, CommandEnd, Finding, Form, read_network_file, tell_found};
 use sw_json::laws::verdicts_are_plain;
-use sw_json::{AsValue, CommandOutcome};
+use sw_json::{AsValue, CommandOutcome, SecondFile};
 use sw_search::VerdictWorkers;
 
 impl Finding for Mending {
@@ -41,18 +42,25 @@ impl AsLines for Mending {
 impl AsValue for Mending {
     ghost command = { codes "mend" };
 
-    ghost value_of = { mending_value };
+    ghost results_of = { λ _ _ d f. IsCommandOutcome (mending_value d f) (mending_status f) };
 
     fn command() -> &'static str {
         "mend"
     }
 
-    fn outcome(&self, alloc: Global, network: &Network) -> Result<CommandOutcome, AllocError> {
+    fn outcome(
+        &self,
+        alloc: Global,
+        _second: SecondFile<'_>,
+        network: &Network,
+    ) -> Result<CommandOutcome, AllocError> {
         mends_are_plain();
         let result = mending_value(alloc, network, self)?;
         let status = mending_status(self);
         Ok(CommandOutcome { result, status })
     }
+
+    ghost result_has_status = { λ _ _ _ _ _ _ is. is.1 };
 }
 
 /// Which single changes make the network of a file free of deadlocks, in this form: 0 where some change does or the network is free
@@ -66,15 +74,21 @@ pub fn mend<T: VerdictWorkers, R: Read, F: Form<Mending>, W: Write>(
     form: &F,
     writer: &mut W,
 ) -> CommandEnd<Mending>
-    ensures ended { EndsByOne F.memory (AnswersInForm (IsMending pairs) (F.tells form.now) (F.faulty form.now) (F.long form.now)) (R.remaining reader.old) (R.remaining reader.new) (W.contents writer.old) (W.contents writer.new) result.ended }
+    ensures ended { EndsByOne F.memory (AnswersInForm (IsMending pairs) (F.tells form.now None) (F.faulty form.now None) (F.long form.now None)) (R.remaining reader.old) (R.remaining reader.new) (W.contents writer.old) (W.contents writer.new) result.ended }
     ensures read { IsFileRead (R.remaining reader.old) (R.remaining reader.new) result.file }
     ensures found { HoldsOfFound (IsMending pairs) (network_of result.file) result.found }
+    ensures told { IsFileTold F.memory (AnswersToFile (F.tells form.now None) (F.faulty form.now None) (F.long form.now None) result.file result.found) result.file (W.contents writer.old) (W.contents writer.new) result.ended }
 {
     let file = read_network_file(alloc, reader);
     let found = match file.network() {
         Some(network) => Some(find_mending(workers, alloc, pairs, network)),
         None => None,
     };
-    let ended = tell_found(form, alloc, &file, &found, writer);
-    CommandEnd { ended, file, found }
+    let ended = tell_found(form, alloc, &file, None, &found, writer);
+    CommandEnd {
+        ended,
+        file,
+        second: None,
+        found,
+    }
 }

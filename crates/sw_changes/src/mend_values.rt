@@ -16,10 +16,7 @@ use serde_json::Value;
 use std::alloc::{AllocError, Global};
 use sw_config::Network;
 use sw_flow::{Place, RouteFault};
-use sw_json::{
-    Member, add_value, kind_value, object_of_five, object_of_four, object_of_three, object_of_two,
-    verdict_value,
-};
+use sw_json::{Member, add_value, kind_value, object_of, verdict_value};
 use sw_mend::{Change, Limiting, Pair, Trial};
 use sw_output::{flow_name, node_name, switch_name};
 use sw_route::Route;
@@ -60,11 +57,8 @@ fn named_change<'a>(
 ) -> Result<Value, AllocError>
     ensures { IfOk result (λ v. view v ≡ object_of ((key.now, string name.now) ∷ (codes "kind", string kind.now) ∷ [])) }
 {
-    object_of_two(
-        alloc,
-        (key, Member::Text(name)),
-        ("kind", Member::Text(kind)),
-    )
+    let members = vec![in alloc; (key, Member::Text(name)), ("kind", Member::Text(kind))]?;
+    object_of(alloc, members)
 }
 
 // A change of what goes with the flows from one node to another.
@@ -79,12 +73,12 @@ fn of_nodes(
 {
     let from = node_name(network, from);
     let to = node_name(network, to);
-    object_of_three(
-        alloc,
+    let members = vec![in alloc;
         ("from", Member::Text(from)),
         ("kind", Member::Text(kind)),
         ("to", Member::Text(to)),
-    )
+    ]?;
+    object_of(alloc, members)
 }
 
 // A port less for the addresses of a table entry.
@@ -100,14 +94,14 @@ fn of_port(
     let port = port.number();
     let name = switch_name(network, switch);
     let (first, last) = addresses(network, switch, entry);
-    object_of_five(
-        alloc,
+    let members = vec![in alloc;
         ("first", first),
         ("kind", Member::Text("port")),
         ("last", last),
         ("port", Member::Number(u64::from(port))),
         ("switch", Member::Text(name)),
-    )
+    ]?;
+    object_of(alloc, members)
 }
 
 // A table entry less.
@@ -121,13 +115,13 @@ fn of_entry(
 {
     let name = switch_name(network, switch);
     let (first, last) = addresses(network, switch, entry);
-    object_of_four(
-        alloc,
+    let members = vec![in alloc;
         ("first", first),
         ("kind", Member::Text("entry")),
         ("last", last),
         ("switch", Member::Text(name)),
-    )
+    ]?;
+    object_of(alloc, members)
 }
 
 // What is taken away.
@@ -167,13 +161,13 @@ fn trial_value(alloc: Global, network: &Network, trial: &Trial) -> Result<Value,
             let name = node_name(network, link.node);
             let port = link.port.number();
             let switch = switch_name(network, link.switch);
-            object_of_four(
-                alloc,
+            let members = vec![in alloc;
                 ("kind", Member::Text("target link")),
                 ("node", Member::Text(name)),
                 ("port", Member::Number(u64::from(port))),
                 ("switch", Member::Text(switch)),
-            )
+            ]?;
+            object_of(alloc, members)
         }
     }
 }
@@ -204,11 +198,11 @@ fn told_mend(
     ensures { IfOk result (λ v. IsOkAnd text (λ t. view v ≡ told_mend (map view changes.items) (string_bytes t))) }
 {
     let text = text?;
-    object_of_two(
-        alloc,
+    let members = vec![in alloc;
         ("changes", Member::Value(Value::Array(changes))),
         ("text", Member::Value(Value::String(text))),
-    )
+    ]?;
+    object_of(alloc, members)
 }
 
 // A single change that frees the network.
@@ -296,11 +290,11 @@ fn told_mends(alloc: Global, mends: Result<Vec<Value>, AllocError>) -> Result<Va
     ensures { IfOk result (λ v. IsOkAnd mends (λ m. view v ≡ mends_value (map view m.items))) }
 {
     let mends = mends?;
-    object_of_two(
-        alloc,
+    let members = vec![in alloc;
         ("kind", Member::Text("mends")),
         ("mends", Member::Value(Value::Array(mends))),
-    )
+    ]?;
+    object_of(alloc, members)
 }
 
 // The verdict that a flow is not well routed.

@@ -1,2 +1,4 @@
 pub mod Answered
+pub mod AnsweredTwo
 pub mod LineEnds
+pub mod Zero

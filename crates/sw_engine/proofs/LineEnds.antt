@@ -3,21 +3,17 @@ use Rattle.std.proofs.Common.{◌≡◌, ◌∙◌, ◌⊎◌, ℕ, List, inl, i
 use Rattle.std.specs.Prelude.{[], ◌∷◌, Bool, true, false, Option, Some, None, Result, Ok, Err, MatchBool, codes, if◌then◌else◌, length, nat_le}
 use Rattle.sw_text.specs.declared.write_answer.Ended.{Ended}
 use Rattle.sw_text.specs.declared.write_answer.Ended.TheVariants.{Status, ReadFailed, WriteFailed}
-use Rattle.sw_text.specs.Ends.{Answers, AnswersBy, EndsBy, IfLimited, IfShort, OrMemory, Says, limited, most_bytes}
+use Rattle.sw_text.specs.Ends.{Answers, AnswersBy, AnswersByTwo, AnswersToTwo, EndsBy, IfLimited, IfShort, OrMemory, Says, limited, most_bytes}
 use Rattle.sw_text.specs.Lines.{line}
 use Rattle.sw_config.specs.Entries.{Declaration}
 use Rattle.sw_file.specs.Network.{network_text}
 use Rattle.sw_text.specs.declared.fault.TextFault.{TextFault}
-use Rattle.sw_engine.specs.Engines.{AnswersByOne, AnswersToNetworkFile, AnswersToOne, AnswersToRead, EndsByOne}
+use Rattle.sw_engine.specs.Engines.{AnswersByOne, AnswersToNetworkFile, AnswersToOne, AnswersToRead, AnswersToTwoInForm, EndsByOne, EndsByTwo}
 use Rattle.sw_engine.specs.Files.{IsFileRead, network_of}
 use Rattle.sw_engine.specs.Tellings.{Findings, HoldsOfFound}
 use Rattle.sw_engine.specs.declared.network_file.NetworkFile.{NetworkFile}
 use Rattle.sw_engine.proofs.Answered.{ends_by_file}
-use Rattle.sw_engine.specs.LineAnswers.{FaultInLine, FindingInLines, IsFileToldInLines, NetworkFileInLines}
-
--- the line for want of memory
-abbrev pub memory_line : List ℕ
-memory_line = line (codes "fault memory" ∷ [])
+use Rattle.sw_engine.specs.LineAnswers.{FaultInLine, FindingInLines, IsFileToldInLines, NetworkFileInLines, TwoFilesInLines, memory_line}
 
 at_length : (P : List ℕ → Answers) (bytes text : List ℕ) (status : ℕ) (is_short : Bool)
     → IfLimited (if is_short then Some bytes else None) P text status
@@ -62,6 +58,31 @@ pub network_file_in_lines : {X : Type 0} (Finds : Declaration → X → Type 0) 
     → EndsBy (NetworkFileInLines Finds lines status) before after old new ended
 network_file_in_lines Finds lines status before after old new ended is =
     as_lines (in_lines Finds lines status) (NetworkFileInLines Finds lines status) (each_in_lines Finds lines status) before after old new ended is
+
+-- ---- two files
+
+-- what answers each two texts in lines
+abbrev pub two_in_lines : {X : Type 0} → (Option (List ℕ) → Declaration → X → Type 0) → (Declaration → X → List ℕ) → (X → ℕ) → AnswersToTwo
+two_in_lines Finds lines status =
+    AnswersToTwoInForm Finds (λ _ _ d found. Says (lines d found) (status found)) (λ _ _ fault. FaultInLine fault)
+    (λ _. Says (line (codes "fault A1 TooLong" ∷ [])) 3)
+
+module _ {X : Type 0} (Finds : Option (List ℕ) → Declaration → X → Type 0) (lines : Declaration → X → List ℕ) (number : X → ℕ)
+    (first first_after second second_after : Option (List ℕ)) where
+  by_two : (text : List ℕ) (status : ℕ)
+      → AnswersByTwo (two_in_lines Finds lines number) first first_after second second_after text status ⊎ Says memory_line 5 text status
+      → AnswersByTwo (TwoFilesInLines Finds lines number) first first_after second second_after text status ⊎ Says memory_line 5 text status
+  by_two text status (inl (one, other, gives, gives_also, answer)) =
+      inl (one, other, gives, gives_also, each_in_lines (Finds other) lines number one text status answer)
+  by_two text status (inr memory) = inr memory
+
+  -- an engine that answers two files so
+  pub two_files_in_lines : (old new : Option (List ℕ)) (ended : Ended)
+      → EndsByTwo memory_line (two_in_lines Finds lines number) first first_after second second_after old new ended
+      → EndsByTwo memory_line (TwoFilesInLines Finds lines number) first first_after second second_after old new ended
+  two_files_in_lines old new (Status n) (text, status, may, told) = (text, status, by_two text status may, told)
+  two_files_in_lines old new WriteFailed (text, status, may, told) = (text, status, by_two text status may, told)
+  two_files_in_lines old new ReadFailed kept = kept
 
 -- ---- one answer
 

@@ -3,7 +3,7 @@ use Rattle.std.specs.Prelude.{ℕ, List, Option, Some, None, Result, Ok, Err}
 use Rattle.std.specs.Io.KnownBytes.{Keeps}
 use Rattle.sw_config.specs.Entries.{Declaration}
 use Rattle.sw_file.specs.Network.{network_text}
-use Rattle.sw_text.specs.Ends.{Answers, GivesText}
+use Rattle.sw_text.specs.Ends.{Answers, AnswersByTwo, AnswersToTwo, GivesText}
 use Rattle.sw_text.specs.declared.fault.TextFault.{TextFault}
 use Rattle.sw_text.specs.declared.write_answer.Ended.{Ended}
 use Rattle.sw_text.specs.declared.write_answer.Ended.TheVariants.{Status, ReadFailed, WriteFailed}
@@ -41,3 +41,19 @@ abbrev pub EndsByOne : List ℕ → AnswersToOne → Option (List ℕ) → Optio
 EndsByOne memory P before after old new (Status n) = TellsOr memory (AnswersByOne P before after) old new (Status n)
 EndsByOne memory P before after old new WriteFailed = TellsOr memory (AnswersByOne P before after) old new WriteFailed
 EndsByOne memory P before after old new ReadFailed = Keeps old new
+
+-- Of the texts of a network file and of a second file, None where one is too long, by what a command finds of the network and of the second text, and in
+-- which form that is told: all that is wrong with the first file comes before what is with the second.
+abbrev pub AnswersToTwoInForm : {X : Type 0} → (Option (List ℕ) → Declaration → X → Type 0) → (Option (List ℕ) → List ℕ → Declaration → X → Answers)
+    → (Option (List ℕ) → List ℕ → TextFault → Answers) → (Option (List ℕ) → Answers) → AnswersToTwo
+AnswersToTwoInForm Finds Tells Faulty Long first second = AnswersInForm (Finds second) (Tells second) (Faulty second) (Long second) first
+
+-- An engine that reads two texts, both before it looks at either: what it tells is an answer to the two, or the line for want of memory; where a read
+-- failed nothing is written.
+abbrev pub EndsByTwo : List ℕ → AnswersToTwo → Option (List ℕ) → Option (List ℕ) → Option (List ℕ) → Option (List ℕ) → Option (List ℕ) → Option (List ℕ)
+    → Ended → Type 0
+EndsByTwo memory P first first_after second second_after old new (Status n) =
+    TellsOr memory (AnswersByTwo P first first_after second second_after) old new (Status n)
+EndsByTwo memory P first first_after second second_after old new WriteFailed =
+    TellsOr memory (AnswersByTwo P first first_after second second_after) old new WriteFailed
+EndsByTwo memory P first first_after second second_after old new ReadFailed = Keeps old new

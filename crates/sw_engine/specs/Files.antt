@@ -3,6 +3,8 @@ use Rattle.std.specs.Prelude.{◌≡◌, ℕ, List, Option, Some, None, Ok, Err}
 use Rattle.sw_config.specs.Entries.{Declaration}
 use Rattle.sw_file.specs.Network.{network_text}
 use Rattle.sw_text.specs.Ends.{GivesText}
+use Rattle.sw_text.specs.Inputs.{given}
+use Rattle.sw_text.specs.declared.read_texts.InputText.{InputText}
 use Rattle.sw_engine.specs.declared.network_file.NetworkFile.{NetworkFile}
 use Rattle.sw_engine.specs.declared.network_file.NetworkFile.TheVariants.{Network, Faulty, TooLong, Unread, NoMemory}
 
@@ -27,3 +29,14 @@ abbrev pub IsFileRead : Option (List ℕ) → Option (List ℕ) → NetworkFile 
 IsFileRead before after Unread = Unit {0}
 IsFileRead before after NoMemory = Unit {0}
 IsFileRead before after file = (given : Option (List ℕ)) × GivesText before after given × IsFileOf given file
+
+-- the text of a second file, None where it is too long or was not read
+abbrev pub second_given : Option InputText → Option (List ℕ)
+second_given None = None
+second_given (Some input) = given input
+
+-- What the texts are that two readers gave, a network file and a second one. A read that failed, or memory that was wanted, tells nothing of them.
+abbrev pub AreFilesRead : Option (List ℕ) → Option (List ℕ) → Option (List ℕ) → Option (List ℕ) → NetworkFile → Option InputText → Type 0
+AreFilesRead first first_after second second_after Unread input = Unit {0}
+AreFilesRead first first_after second second_after NoMemory input = Unit {0}
+AreFilesRead first first_after second second_after file input = IsFileRead first first_after file × GivesText second second_after (second_given input)

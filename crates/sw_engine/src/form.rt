@@ -1,5 +1,5 @@
 //! In which form a command's answer is told.
-ghost use Rattle.std.specs.Prelude.{ℕ, List, IfOk};
+ghost use Rattle.std.specs.Prelude.{◌≡◌, ℕ, List, IfOk, Option, option_map};
 ghost use Rattle.sw_config.specs.Entries.{Declaration};
 ghost use Rattle.sw_text.specs.Ends.{Answers, IsTold};
 ghost use Rattle.sw_text.specs.declared.fault.TextFault.{TextFault};
@@ -10,15 +10,16 @@ use std::io::Write;
 use sw_config::Network;
 use sw_text::{ByteAnswer, Ended, TextFault};
 
-/// A form in which it is told what a command found, as lines or as one object.
+/// A form in which it is told what a command found, as lines or as one object. `second` are the bytes of the second file of a command of two:
+/// none where they are too many, and of a command of one file.
 pub trait Form<X: Finding> {
     ghost memory: { List ℕ };
 
-    ghost long: { Self → Answers };
+    ghost long: { Self → Option (List ℕ) → Answers };
 
-    ghost faulty: { Self → List ℕ → TextFault → Answers };
+    ghost faulty: { Self → Option (List ℕ) → List ℕ → TextFault → Answers };
 
-    ghost tells: { Self → List ℕ → Declaration → X → Answers };
+    ghost tells: { Self → Option (List ℕ) → List ℕ → Declaration → X → Answers };
 
     /// Tells that there was not enough memory. This takes none.
     fn tell_memory<W: Write>(&self, writer: &mut W) -> Ended
@@ -29,8 +30,8 @@ pub trait Form<X: Finding> {
     /// # Errors
     ///
     /// There is no memory for it.
-    fn long(&self, alloc: Global) -> Result<ByteAnswer, AllocError>
-        ensures { IfOk result (λ answer. long self.now (answer.text.items) answer.status) };
+    fn long(&self, alloc: Global, second: Option<&[u8]>) -> Result<ByteAnswer, AllocError>
+        ensures { IfOk result (λ answer. long self.now (option_map (λ s. s.now) second.entry) (answer.text.items) answer.status) };
 
     /// What answers a text that has this fault.
     ///
@@ -40,10 +41,11 @@ pub trait Form<X: Finding> {
     fn faulty(
         &self,
         alloc: Global,
+        second: Option<&[u8]>,
         text: &[u8],
         fault: &TextFault,
     ) -> Result<ByteAnswer, AllocError>
-        ensures { IfOk result (λ answer. faulty self.now text.now fault.now (answer.text.items) answer.status) };
+        ensures { IfOk result (λ answer. faulty self.now (option_map (λ s. s.now) second.entry) text.now fault.now (answer.text.items) answer.status) };
 
     /// What answers the text of a network of which this was found.
     ///
@@ -53,10 +55,17 @@ pub trait Form<X: Finding> {
     fn found(
         &self,
         alloc: Global,
+        second: Option<&[u8]>,
         text: &[u8],
         network: &Network,
         found: &X,
     ) -> Result<ByteAnswer, AllocError>
         requires { X.Finding.is_of network.now found.now }
-        ensures { IfOk result (λ answer. tells self.now text.now network.now found.now (answer.text.items) answer.status) };
+        ensures { IfOk result (λ answer. tells self.now (option_map (λ s. s.now) second.entry) text.now network.now found.now (answer.text.items) answer.status) };
+
+    ghost long_has_status: { (s : Self) (second : Option (List ℕ)) (text : List ℕ) (status : ℕ) → long s second text status → status ≡ 3 };
+
+    ghost fault_has_status: { (s : Self) (second : Option (List ℕ)) (bytes : List ℕ) (fault : TextFault) (text : List ℕ) (status : ℕ) → faulty s second bytes fault text status → status ≡ 3 };
+
+    ghost finding_has_status: { (s : Self) (second : Option (List ℕ)) (bytes : List ℕ) (d : Declaration) (found : X) (text : List ℕ) (status : ℕ) → tells s second bytes d found text status → status ≡ X.Finding.status_of found };
 }

@@ -1,6 +1,7 @@
 //! Answers as lines of text.
 ghost use Rattle.std.specs.Prelude.{◌≡◌, ◌∷◌, [], ℕ, List, IfOk, codes};
 ghost use Rattle.sw_config.specs.Entries.{Declaration};
+ghost use Rattle.sw_engine.specs.LineAnswers.{memory_line};
 ghost use Rattle.sw_text.specs.Ends.{Says};
 ghost use Rattle.sw_text.specs.FaultTexts.{fault_text};
 ghost use Rattle.sw_text.specs.Lines.{line};
@@ -31,25 +32,32 @@ pub trait AsLines: Finding {
 pub struct Lines;
 
 impl<X: AsLines> Form<X> for Lines {
-    ghost memory = { line (codes "fault memory" ∷ []) };
+    ghost memory = { memory_line };
 
-    ghost long = { λ _. Says (line (codes "fault A1 TooLong" ∷ [])) 3 };
+    ghost long = { λ _ _. Says (line (codes "fault A1 TooLong" ∷ [])) 3 };
 
-    ghost faulty = { λ _ _ fault. Says (line (fault_text fault ∷ [])) 3 };
+    ghost faulty = { λ _ _ _ fault. Says (line (fault_text fault ∷ [])) 3 };
 
-    ghost tells = { λ _ _ d found. Says (X.lines_of d found) (X.Finding.status_of found) };
+    ghost tells = { λ _ _ _ d found. Says (X.lines_of d found) (X.Finding.status_of found) };
+
+    ghost long_has_status = { λ _ _ _ _ says. says.1 };
+
+    ghost fault_has_status = { λ _ _ _ _ _ _ says. says.1 };
+
+    ghost finding_has_status = { λ _ _ _ _ _ _ _ says. says.1 };
 
     fn tell_memory<W: Write>(&self, writer: &mut W) -> Ended {
         tell_memory(writer)
     }
 
-    fn long(&self, alloc: Global) -> Result<ByteAnswer, AllocError> {
+    fn long(&self, alloc: Global, _second: Option<&[u8]>) -> Result<ByteAnswer, AllocError> {
         Ok(Answer::of_long_text(alloc)?.into_bytes())
     }
 
     fn faulty(
         &self,
         alloc: Global,
+        _second: Option<&[u8]>,
         _text: &[u8],
         fault: &TextFault,
     ) -> Result<ByteAnswer, AllocError> {
@@ -59,6 +67,7 @@ impl<X: AsLines> Form<X> for Lines {
     fn found(
         &self,
         alloc: Global,
+        _second: Option<&[u8]>,
         _text: &[u8],
         network: &Network,
         found: &X,

@@ -1,12 +1,13 @@
-//! Network files, as far as they could be read.
+//! Network files, alone or with a second file, as far as they could be read.
 ghost use Rattle.std.specs.Prelude.{◌≡◌, option_map};
+ghost use Rattle.sw_text.specs.Ends.{AreReadInOrder};
 ghost use Rattle.sw_text.specs.Inputs.{given};
-ghost use Rattle.sw_engine.specs.Files.{IsFileOf, IsFileRead, network_of};
+ghost use Rattle.sw_engine.specs.Files.{AreFilesRead, IsFileOf, IsFileRead, network_of, second_given};
 
 use std::alloc::Global;
 use std::io::Read;
 use sw_file::{FileFault, Network, read_network};
-use sw_text::{InputError, InputText, TextFault, read_one};
+use sw_text::{InputError, InputText, TextFault, read_one, read_two};
 
 /// A network file, as far as it could be read.
 #[derive(Drop)]
@@ -52,8 +53,8 @@ impl NetworkFile {
     }
 }
 
-// What a text is as a network file.
-fn file_of(alloc: Global, text: InputText) -> NetworkFile
+/// What a text is as a network file.
+pub fn network_file_of(alloc: Global, text: InputText) -> NetworkFile
     ensures { IsFileOf (given text) result }
 {
     let InputText::Whole(text) = text else {
@@ -61,7 +62,7 @@ fn file_of(alloc: Global, text: InputText) -> NetworkFile
     };
     match read_network(alloc, &text) {
         Ok(network) => NetworkFile::Network { text, network },
-        Err(FileFault::Text(fault)) => NetworkFile::Faulty { text, fault },
+        Err(FileFault::Fault(fault)) => NetworkFile::Faulty { text, fault },
         Err(FileFault::Memory) => NetworkFile::NoMemory,
     }
 }
@@ -71,8 +72,35 @@ pub fn read_network_file<R: Read>(alloc: Global, reader: &mut R) -> NetworkFile
     ensures { IsFileRead (R.remaining reader.old) (R.remaining reader.new) result }
 {
     match read_one(alloc, reader) {
-        Ok(text) => file_of(alloc, text),
+        Ok(text) => network_file_of(alloc, text),
         Err(InputError::Failed) => NetworkFile::Unread,
         Err(InputError::Memory) => NetworkFile::NoMemory,
+    }
+}
+
+/// The bytes of a second file, if it was read and they are not too many.
+pub fn second_bytes(second: &Option<InputText>) -> Option<&[u8]>
+    ensures { option_map (λ s. s.now) result ≡ second_given second.now }
+{
+    match second {
+        Some(InputText::Whole(text)) => Some(text),
+        _ => None,
+    }
+}
+
+/// Reads a network file and a second file whole, the network file first, and both before it looks
+/// at either. There is no second file where one of the two was not read.
+pub fn read_two_files<R: Read, S: Read>(
+    alloc: Global,
+    reader: &mut R,
+    second: &mut S,
+) -> (NetworkFile, Option<InputText>)
+    ensures files { AreFilesRead (R.remaining reader.old) (R.remaining reader.new) (S.remaining second.old) (S.remaining second.new) result.0 result.1 }
+    ensures order { AreReadInOrder (R.remaining reader.old) (R.remaining reader.new) (S.remaining second.old) (S.remaining second.new) }
+{
+    match read_two(alloc, reader, second) {
+        Ok((text, other)) => (network_file_of(alloc, text), Some(other)),
+        Err(InputError::Failed) => (NetworkFile::Unread, None),
+        Err(InputError::Memory) => (NetworkFile::NoMemory, None),
     }
 }

@@ -27,7 +27,7 @@ use Rattle.sw_json.proofs.OneResult.{AreOne, one_answer}
 use Rattle.sw_explain.proofs.TanglesOnce.{one_tangles_value}
 use Rattle.sw_json.proofs.OneObject.{one_status, status_of_lines, value_once}
 use Rattle.sw_json.specs.Answering.{OfNetwork, read_value}
-use Rattle.sw_json.specs.ObjectAnswers.{FindingAsValue}
+use Rattle.sw_json.specs.ObjectAnswers.{FindingAsResult, by_value}
 use Rattle.sw_explain.specs.ExplainValues.{explain_value}
 use Rattle.sw_explain.specs.ExplainLaws.{ExplainHasOneAnswer, ExplainHasOneStatus, ExplainHasStatusOfText, HasNoFlowsAtTargets, TargetsHaveNoFlows}
 use Rattle.sw_topo.proofs.Lists.{none_listed}
@@ -60,12 +60,13 @@ module _ (of_verdict : ExplanationsAreOfTheVerdict) (where_cycles : TanglesAreWh
 
   pub explain_has_one_status : ExplainHasOneStatus
   explain_has_one_status all path release given =
-      one_status (IsExplainFinding all) value_of status_of (statuses all all) (codes "explain") path release given
+      one_status (IsExplainFinding all) (by_value value_of status_of) (codes "explain") path (λ read. read_value path read ∷ []) release status_of
+      (λ d x value status is. is.1) (statuses all all) given
 
   pub explain_has_status_of_text : ExplainHasStatusOfText
   explain_has_status_of_text asked all path release given =
-      status_of_lines (IsExplainFinding asked) value_of status_of (statuses asked asked) (IsExplainFinding all) (λ d found. explain_text d found.all found.explanation) status_of
-      (statuses asked all) (codes "explain") path release given
+      status_of_lines (IsExplainFinding asked) (by_value value_of status_of) (codes "explain") path (λ read. read_value path read ∷ []) release status_of
+      (λ d x value status is. is.1) (IsExplainFinding all) (λ d found. explain_text d found.all found.explanation) status_of (statuses asked all) given
 
 -- ---- one answer where each flow is well routed
 
@@ -82,7 +83,7 @@ found_once of_verdict where_cycles d all Free Free h k = refl
 pub explain_has_one_answer : ExplanationsAreOfTheVerdict → TanglesAreWhereCyclesAre → ExplainHasOneAnswer
 explain_has_one_answer of_verdict where_cycles all path release bytes d is routed =
     one_answer (codes "explain") (read_value path (Some bytes) ∷ []) release _
-    (subst (λ (r : Result Declaration TextFault). AreOne (OfNetwork path bytes (FindingAsValue (IsExplainFinding all) value_of status_of) r)) (sym is)
+    (subst (λ (r : Result Declaration TextFault). AreOne (OfNetwork path bytes (FindingAsResult (IsExplainFinding all) (by_value value_of status_of)) r)) (sym is)
     (value_once (IsExplainFinding all) value_of status_of (statuses of_verdict where_cycles all all) d
     (λ x y h k. found_once of_verdict where_cycles d routed x.explanation y.explanation h.1 k.1)))
 

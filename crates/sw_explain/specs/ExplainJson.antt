@@ -3,7 +3,7 @@ use Rattle.std.specs.Prelude.{Bool, ℕ, List, codes}
 use Rattle.sw_explain.specs.ExplainAnswers.{IsExplainFinding}
 use Rattle.sw_explain.specs.ExplainTexts.{explain_status}
 use Rattle.sw_explain.specs.ExplainValues.{explain_value}
-use Rattle.sw_json.specs.Answering.{AnswersToOne}
+use Rattle.sw_engine.specs.Engines.{AnswersToOne}
 use Rattle.sw_json.specs.ObjectAnswers.{NetworkFileAsObject}
 use Rattle.sw_json.specs.declared.files.Release.{Release}
 

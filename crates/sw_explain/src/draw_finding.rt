@@ -1,13 +1,13 @@
 //! What `draw` finds, and its engine.
-ghost use Rattle.std.specs.Prelude.{◌≡◌, IfOk, string_bytes};
+ghost use Rattle.std.specs.Prelude.{◌≡◌, IfOk, string_bytes, None};
 ghost use Rattle.sw_engine.specs.Engines.{AnswersInForm, EndsByOne};
 ghost use Rattle.sw_engine.specs.Files.{IsFileRead, network_of};
-ghost use Rattle.sw_engine.specs.Tellings.{HoldsOfFound};
+ghost use Rattle.sw_engine.specs.Tellings.{AnswersToFile, HoldsOfFound, IsFileTold};
 ghost use Rattle.sw_explain.specs.DrawAnswers.{IsDrawFinding, IsDrawnWith, draw_lines, draw_status};
 ghost use Rattle.sw_explain.specs.Drawings.{AreNumbersDrawn, IsCycleDrawn, first_cycle, numbers_of};
 
+use crate::dot_text::draw_text;
 use crate::draw_options::DrawOptions;
-use crate::draw_text::draw_text;
 use std::alloc::{AllocError, Global};
 use std::io::{Read, Write};
 use sw_config::Network;
@@ -188,15 +188,21 @@ pub fn draw<T: VerdictWorkers, R: Read, F: Form<DrawFinding>, W: Write>(
     form: &F,
     writer: &mut W,
 ) -> CommandEnd<DrawFinding>
-    ensures ended { EndsByOne F.memory (AnswersInForm (IsDrawFinding options.now) (F.tells form.now) (F.faulty form.now) (F.long form.now)) (R.remaining reader.old) (R.remaining reader.new) (W.contents writer.old) (W.contents writer.new) result.ended }
+    ensures ended { EndsByOne F.memory (AnswersInForm (IsDrawFinding options.now) (F.tells form.now None) (F.faulty form.now None) (F.long form.now None)) (R.remaining reader.old) (R.remaining reader.new) (W.contents writer.old) (W.contents writer.new) result.ended }
     ensures read { IsFileRead (R.remaining reader.old) (R.remaining reader.new) result.file }
     ensures found { HoldsOfFound (IsDrawFinding options.now) (network_of result.file) result.found }
+    ensures told { IsFileTold F.memory (AnswersToFile (F.tells form.now None) (F.faulty form.now None) (F.long form.now None) result.file result.found) result.file (W.contents writer.old) (W.contents writer.new) result.ended }
 {
     let file = read_network_file(alloc, reader);
     let found = match file.network() {
         Some(network) => Some(find(workers, alloc, network, options)),
         None => None,
     };
-    let ended = tell_found(form, alloc, &file, &found, writer);
-    CommandEnd { ended, file, found }
+    let ended = tell_found(form, alloc, &file, None, &found, writer);
+    CommandEnd {
+        ended,
+        file,
+        second: None,
+        found,
+    }
 }

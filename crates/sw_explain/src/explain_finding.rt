@@ -1,8 +1,9 @@
 //! What `explain` finds, and its engine.
-ghost use Rattle.std.specs.Prelude.{◌≡◌, IfOk, codes};
+ghost use Rattle.std.specs.Prelude.{◌≡◌, IfOk, codes, None};
 ghost use Rattle.sw_engine.specs.Engines.{AnswersInForm, EndsByOne};
 ghost use Rattle.sw_engine.specs.Files.{IsFileRead, network_of};
-ghost use Rattle.sw_engine.specs.Tellings.{HoldsOfFound};
+ghost use Rattle.sw_engine.specs.Tellings.{AnswersToFile, HoldsOfFound, IsFileTold};
+ghost use Rattle.sw_json.specs.Answering.{IsCommandOutcome};
 ghost use Rattle.sw_search.specs.Explanations.{IsExplanation};
 ghost use Rattle.sw_explain.specs.ExplainAnswers.{IsExplainFinding};
 ghost use Rattle.sw_explain.specs.ExplainTexts.{explain_status, explain_text};
@@ -15,7 +16,7 @@ use std::alloc::{AllocError, Global};
 use std::io::{Read, Write};
 use sw_config::Network;
 use sw_engine::{AsLines, CommandEnd, Finding, Form, read_network_file, tell_found};
-use sw_json::{AsValue, CommandOutcome};
+use sw_json::{AsValue, CommandOutcome, SecondFile};
 use sw_search::{Explanation, VerdictWorkers};
 
 /// What `explain` finds of a network, and how much of it is to be told.
@@ -49,18 +50,25 @@ impl AsLines for ExplainFinding {
 impl AsValue for ExplainFinding {
     ghost command = { codes "explain" };
 
-    ghost value_of = { λ d f. explain_value d f.explanation };
+    ghost results_of = { λ _ _ d f. IsCommandOutcome (explain_value d f.explanation) (explain_status f.explanation) };
 
     fn command() -> &'static str {
         "explain"
     }
 
-    fn outcome(&self, alloc: Global, network: &Network) -> Result<CommandOutcome, AllocError> {
+    fn outcome(
+        &self,
+        alloc: Global,
+        _second: SecondFile<'_>,
+        network: &Network,
+    ) -> Result<CommandOutcome, AllocError> {
         explanations_are_plain();
         let result = explain_value(alloc, network, &self.explanation)?;
         let status = explain_status(&self.explanation);
         Ok(CommandOutcome { result, status })
     }
+
+    ghost result_has_status = { λ _ _ _ _ _ _ is. is.1 };
 }
 
 // What is found of a network.
@@ -88,15 +96,21 @@ pub fn explain<T: VerdictWorkers, R: Read, F: Form<ExplainFinding>, W: Write>(
     form: &F,
     writer: &mut W,
 ) -> CommandEnd<ExplainFinding>
-    ensures ended { EndsByOne F.memory (AnswersInForm (IsExplainFinding all) (F.tells form.now) (F.faulty form.now) (F.long form.now)) (R.remaining reader.old) (R.remaining reader.new) (W.contents writer.old) (W.contents writer.new) result.ended }
+    ensures ended { EndsByOne F.memory (AnswersInForm (IsExplainFinding all) (F.tells form.now None) (F.faulty form.now None) (F.long form.now None)) (R.remaining reader.old) (R.remaining reader.new) (W.contents writer.old) (W.contents writer.new) result.ended }
     ensures read { IsFileRead (R.remaining reader.old) (R.remaining reader.new) result.file }
     ensures found { HoldsOfFound (IsExplainFinding all) (network_of result.file) result.found }
+    ensures told { IsFileTold F.memory (AnswersToFile (F.tells form.now None) (F.faulty form.now None) (F.long form.now None) result.file result.found) result.file (W.contents writer.old) (W.contents writer.new) result.ended }
 {
     let file = read_network_file(alloc, reader);
     let found = match file.network() {
         Some(network) => Some(find(workers, alloc, network, all)),
         None => None,
     };
-    let ended = tell_found(form, alloc, &file, &found, writer);
-    CommandEnd { ended, file, found }
+    let ended = tell_found(form, alloc, &file, None, &found, writer);
+    CommandEnd {
+        ended,
+        file,
+        second: None,
+        found,
+    }
 }

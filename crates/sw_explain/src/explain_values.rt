@@ -15,8 +15,8 @@ use sw_config::Network;
 use sw_cycle::Cause;
 use sw_flow::{Place, RouteFault};
 use sw_json::{
-    Member, add_value, finish_text, flow_name_values, kind_value, misrouted_fault_value,
-    object_of_four, object_of_seven, object_of_two, place_values, start_text,
+    Member, add_value, finish_text, flow_name_values, kind_value, misrouted_fault_value, object_of,
+    place_values, start_text,
 };
 use sw_output::{flow_name, node_name};
 use sw_search::{Explanation, Tangle};
@@ -37,13 +37,13 @@ fn wrong_value(
     let fault = misrouted_fault_value(alloc, place, fault)?;
     let way = place_values(alloc, network, way)?;
     let name = flow_name(network, flow);
-    object_of_four(
-        alloc,
+    let members = vec![in alloc;
         ("fault", Member::Value(fault)),
         ("flow", Member::Text(name)),
         ("kind", Member::Text("misrouted")),
         ("way", Member::Value(Value::Array(way))),
-    )
+    ]?;
+    object_of(alloc, members)
 }
 
 // The node whose target makes a channel wait for the next, or null where flows do.
@@ -97,8 +97,7 @@ fn step_value(
     let start = start_text(alloc, network, channel)?;
     let names = flow_name_values(alloc, network, flows)?;
     let number = channel.number();
-    object_of_seven(
-        alloc,
+    let members = vec![in alloc;
         ("channel", Member::Number(u64::from(number))),
         ("end", Member::Value(Value::String(end))),
         ("flows", Member::Value(Value::Array(names))),
@@ -106,7 +105,8 @@ fn step_value(
         ("slots", slots_value(network, cause)),
         ("start", Member::Value(Value::String(start))),
         ("target", target_value(network, cause)),
-    )
+    ]?;
+    object_of(alloc, members)
 }
 
 // An object for each channel of a cycle.
@@ -143,11 +143,11 @@ fn tangle_value(alloc: Global, network: &Network, tangle: &Tangle) -> Result<Val
         &tangle.flows,
     )?;
     let count = tangle.channels;
-    object_of_two(
-        alloc,
+    let members = vec![in alloc;
         ("channels", Member::Number(count as u64)),
         ("cycle", Member::Value(Value::Array(steps))),
-    )
+    ]?;
+    object_of(alloc, members)
 }
 
 // An object for each tangle.
@@ -174,11 +174,11 @@ fn tangles_value(alloc: Global, network: &Network, tangles: &[Tangle]) -> Result
     // Names the network, which is valid by its type.
     let _topology = network.topology();
     let values = tangle_values(alloc, network, tangles)?;
-    object_of_two(
-        alloc,
+    let members = vec![in alloc;
         ("kind", Member::Text("cyclic")),
         ("tangles", Member::Value(Value::Array(values))),
-    )
+    ]?;
+    object_of(alloc, members)
 }
 
 /// The object that stands for what is told of a network.

@@ -1,8 +1,8 @@
 -- What the entries of a document say, as far as they say it (this project's choice).
 use Rattle.std.specs.Prelude.{ℕ, List, Option, Some, None, [], Result, Ok, Err, option_and_then, option_map}
 use Rattle.toml.specs.Data.{Data, Members, as_integer, as_str, get_member}
-use Rattle.sw_text.specs.declared.fault.FileFault.{FileFault}
-use Rattle.sw_text.specs.declared.fault.FileFault.TheVariants.{Text, Memory}
+use Rattle.sw_text.specs.Gives.{FileFault}
+use Rattle.sw_text.specs.declared.fault.OrMemory.TheVariants.{Fault, Memory}
 use Rattle.sw_text.specs.declared.fault.TextFault.{TextFault}
 use Rattle.sw_text.specs.declared.keys.Key.{Key}
 use Rattle.sw_text.specs.declared.keys.Key.TheVariants.{Address, Last}
@@ -23,7 +23,7 @@ as_read (Err fault) = []
 
 -- a text has this fault: there was memory to read it
 abbrev pub IsOfText : FileFault → Type 0
-IsOfText (Text fault) = Unit {0}
+IsOfText (Fault fault) = Unit {0}
 IsOfText Memory = ⊥
 
 -- the tables of a list of a table

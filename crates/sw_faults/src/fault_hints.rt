@@ -1,18 +1,17 @@
 //! The hint of a fault of a network file or a load file.
-ghost use Rattle.std.specs.Prelude.{◌≡◌, ◌≤◌, IfOk, Some, length};
+ghost use Rattle.std.specs.Prelude.{◌≤◌, IfOk, length};
 ghost use Rattle.sw_faults.specs.FaultHints.{IsAtFault};
-ghost use Rattle.sw_faults.specs.LineColumn.{column_of, line_of};
 
 use crate::escaped::shown;
 use crate::fault_places::fault_place;
-use crate::fault_words::{expected_text, what_text};
-use crate::helps::help_text;
 use crate::hint::Hint;
 use crate::key_words::words_version;
 use crate::line_column::position_at;
-use crate::note_words::add_note_words;
+use crate::made::Made;
+use crate::note_words::note_text;
 use crate::notes::notes_of;
 use crate::unread::text_fault;
+use crate::words::{expected_text, help_text, what_text};
 use std::alloc::{AllocError, Global};
 use sw_text::{TextFault, Version, read_document};
 use toml::Table;
@@ -45,19 +44,6 @@ pub fn found_at(alloc: Global, text: &[u8], at: usize) -> Result<String, AllocEr
     shown(alloc, &line[..MOST_FOUND.min(line.len())])
 }
 
-// Says where it is, and what stands there.
-fn place_hint(alloc: Global, text: &[u8], at: usize, hint: &mut Hint) -> Result<(), AllocError>
-    requires { at ≤ length text.now }
-    ensures line { IfOk result (λ _. hint.new.line ≡ Some (line_of text.now at)) }
-    ensures column { IfOk result (λ _. hint.new.column ≡ Some (column_of text.now at)) }
-{
-    let position = position_at(text, at);
-    hint.found = found_at(alloc, text, at)?;
-    hint.line = Some(position.line);
-    hint.column = Some(position.column);
-    Ok(())
-}
-
 /// Says where a fault of a text stands, what stands there, and what is wrong with it.
 ///
 /// # Errors
@@ -67,54 +53,31 @@ pub fn hint_at_fault(alloc: Global, text: &[u8], fault: &TextFault) -> Result<Hi
     ensures { IfOk result (λ h. IsAtFault text.now fault.now h.line h.column) }
 {
     let place = fault_place(alloc, text, fault)?;
-    let mut hint = Hint::new(alloc, what_text(alloc, fault)?);
+    let hint = Hint::new(alloc, what_text(alloc, fault)?);
     let Some(at) = place else {
         return Ok(hint);
     };
-    match place_hint(alloc, text, at, &mut hint) {
-        Ok(()) => Ok(hint),
-        Err(refused) => {
-            drop(hint);
-            Err(refused)
-        }
-    }
+    let position = position_at(text, at);
+    Ok(Hint {
+        line: Some(position.line),
+        column: Some(position.column),
+        found: found_at(alloc, text, at)?,
+        ..hint
+    })
 }
 
-// Says what would be right, what to do, and what else has to do with the fault.
-fn help_with(
+// What else has to do with the fault.
+fn note_texts(
     alloc: Global,
     text: &[u8],
     document: &Table,
     fault: &TextFault,
-    hint: &mut Hint,
-) -> Result<(), AllocError>
-    ensures line { hint.new.line ≡ hint.old.line }
-    ensures column { hint.new.column ≡ hint.old.column }
-{
-    let version = words_version(alloc, document)?;
-    hint.expected = expected_text(alloc, version, fault)?;
-    hint.help = help_text(alloc, document, fault)?;
+) -> Made<Vec<String>> {
+    let mut texts = Vec::new(alloc);
     for note in &notes_of(alloc, document, fault)? {
-        add_note_words(alloc, text, *note, &mut hint.notes)?;
+        texts.push(note_text(alloc, text, *note)?)?;
     }
-    Ok(())
-}
-
-// The same, of a text that is no document too.
-fn help_in(alloc: Global, text: &[u8], fault: &TextFault, hint: &mut Hint) -> Result<(), AllocError>
-    ensures line { hint.new.line ≡ hint.old.line }
-    ensures column { hint.new.column ≡ hint.old.column }
-{
-    match fault {
-        TextFault::Syntax => {
-            hint.expected = expected_text(alloc, Version::Two, fault)?;
-            Ok(())
-        }
-        fault => match read_document(alloc, text) {
-            Ok(document) => help_with(alloc, text, &document, fault, hint),
-            Err(refused) => text_fault(refused),
-        },
-    }
+    Ok(texts)
 }
 
 /// The hint of a fault of a network file: where it stands, what stands there, what would be right, what to do, and which other entries have to do
@@ -127,11 +90,17 @@ pub fn fault_hint(alloc: Global, text: &[u8], fault: &TextFault) -> Result<Hint,
     ensures { IfOk result (λ h. IsAtFault text.now fault.now h.line h.column) }
 {
     let mut hint = hint_at_fault(alloc, text, fault)?;
-    match help_in(alloc, text, fault, &mut hint) {
-        Ok(()) => Ok(hint),
+    match read_document(alloc, text) {
+        Ok(document) => {
+            let version = words_version(alloc, &document)?;
+            hint.expected = expected_text(alloc, version, fault)?;
+            hint.help = help_text(alloc, &document, fault)?;
+            hint.notes = note_texts(alloc, text, &document, fault)?;
+        }
         Err(refused) => {
-            drop(hint);
-            Err(refused)
+            text_fault(refused)?;
+            hint.expected = expected_text(alloc, Version::Two, fault)?;
         }
     }
+    Ok(hint)
 }

@@ -1,6 +1,7 @@
 //! What may stand at the keys of a network file or a load file.
+use crate::made::Made;
 use crate::unread::text_fault;
-use std::alloc::{AllocError, Global};
+use std::alloc::Global;
 use sw_file::declared_version;
 use sw_file::keys::{
     DOCUMENT_KEYS, FLOW_KEYS, SWITCH_KEYS, link_keys, node_keys, reply_keys, route_keys,
@@ -10,20 +11,25 @@ use sw_text::{Key, Section, Version};
 use toml::Table;
 
 /// By the words of which version a fault of the document is told: of version 3 where it is of that version, else of version 2.
-///
-/// # Errors
-///
-/// There is no memory to look.
-pub(crate) fn words_version(alloc: Global, document: &Table) -> Result<Version, AllocError> {
+pub(crate) fn words_version(alloc: Global, document: &Table) -> Made<Version> {
     match declared_version(alloc, document) {
-        Ok(Version::One) => Ok(Version::Two),
-        Ok(Version::Two) => Ok(Version::Two),
         Ok(Version::Three) => Ok(Version::Three),
+        Ok(_) => Ok(Version::Two),
         Err(refused) => {
             text_fault(refused)?;
             Ok(Version::Two)
         }
     }
+}
+
+/// Is one of the keys written so?
+pub(crate) fn is_one_of(keys: &[Key], name: &str) -> bool {
+    keys.iter().any(|key| key.text() == name)
+}
+
+/// The keys as a file writes them.
+pub(crate) fn key_texts(alloc: Global, keys: &[Key]) -> Made<Vec<&'static str>> {
+    keys.iter().map(|key| key.text()).collect(alloc)
 }
 
 /// The keys of a table, those of this version too.
@@ -38,50 +44,6 @@ pub(crate) fn keys_of(version: Version, section: Section) -> &'static [Key] {
         Section::Flow(_) => FLOW_KEYS,
         Section::Reply(_) => reply_keys(version),
         Section::Packet(_) => &[Key::Flow, Key::Cargo, Key::End, Key::Count],
-    }
-}
-
-/// Those of version 2, and not of version 1.
-pub(crate) fn new_keys_of(section: Section) -> &'static [Key] {
-    match section {
-        Section::Target(_) => &[Key::Slots],
-        Section::Route(_, _) => &[Key::Last],
-        Section::Link(_) => &[Key::BufferA, Key::BufferB],
-        _ => &[],
-    }
-}
-
-/// Those of version 3, and not of version 2.
-pub(crate) fn newest_keys_of(section: Section) -> &'static [Key] {
-    match section {
-        Section::Node(_) => &[Key::Outstanding],
-        Section::Reply(_) => &[Key::Outstanding],
-        _ => &[],
-    }
-}
-
-/// Those that stand beside a switch alone.
-pub(crate) fn port_keys(section: Section) -> &'static [Key] {
-    match section {
-        Section::Link(_) => &[Key::APort, Key::BPort],
-        _ => &[],
-    }
-}
-
-/// The keys of the document, for a table that stands below it.
-pub(crate) fn outer_keys(section: Section) -> &'static [Key] {
-    match section {
-        Section::Document => &[],
-        Section::Packet(_) => &[Key::Packet],
-        _ => DOCUMENT_KEYS,
-    }
-}
-
-/// How many replies a target may owe.
-fn slots_words(version: Version) -> &'static str {
-    match version {
-        Version::One | Version::Two => "a number from 1 to 8",
-        Version::Three => "a number from 1 to 64",
     }
 }
 
@@ -101,7 +63,10 @@ pub(crate) fn value_words(version: Version, section: Section, key: Key) -> &'sta
         Key::TargetKey => "a number from 0 to 255",
         Key::Start => "a number from 0 to 1099511627775",
         Key::Size => "a number from 1 to 65536, and 'start' + 'size' at most 1099511627776",
-        Key::Slots => slots_words(version),
+        Key::Slots => match version {
+            Version::Three => "a number from 1 to 64",
+            _ => "a number from 1 to 8",
+        },
         Key::Arbiter => "\"fixed\", \"round-robin\" or \"least-recent\"",
         Key::Route => "a list of tables",
         Key::Address => match section {

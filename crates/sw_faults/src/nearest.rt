@@ -57,3 +57,15 @@ pub fn like<'a>(alloc: Global, name: &str, texts: &[&'a str]) -> Result<Option<&
         None => first_at(alloc, name, texts, 2),
     }
 }
+
+/// The text that was meant, maybe, as words; nothing where none is like the name.
+///
+/// # Errors
+///
+/// There is no memory for the text, or to compare them.
+pub fn meant_help(alloc: Global, name: &str, texts: &[&str]) -> Result<String, AllocError> {
+    match like(alloc, name, texts)? {
+        Some(text) => format!(in alloc; "is '{text}' meant?"),
+        None => Ok(String::new(alloc)),
+    }
+}

@@ -1,13 +1,14 @@
 //! What else has to do with a fault, in words.
 use crate::line_column::{Position, position_at};
+use crate::made::Made;
 use crate::note::Note;
 use crate::place::place_of;
 use crate::sought::Sought;
-use std::alloc::{AllocError, Global};
+use std::alloc::Global;
 use sw_text::Section;
 
 // A table of a file, by its number.
-fn entry_text(alloc: Global, section: Section) -> Result<String, AllocError> {
+fn entry_text(alloc: Global, section: Section) -> Made<String> {
     match section {
         Section::Document => String::from_str(alloc, "the document"),
         Section::Node(i) => format!(in alloc; "node {i}"),
@@ -21,67 +22,45 @@ fn entry_text(alloc: Global, section: Section) -> Result<String, AllocError> {
     }
 }
 
-// The entry that a note is of.
-fn entry_of(note: Note) -> Option<Section> {
+// The entry that a note is of, and what is noted.
+fn entry_and_words(alloc: Global, note: Note) -> (Option<Section>, Made<String>) {
+    let text = |words: &str| String::from_str(alloc, words);
     match note {
-        Note::HasName(section) => Some(section),
-        Note::LinkHere(link) | Note::HasPort(link, _) => Some(Section::Link(link)),
-        Note::IsFor(switch, route, _, _) => Some(Section::Route(switch, route)),
-        Note::NoTarget(node) => Some(Section::Node(node)),
-        Note::Unlinked | Note::LongPath(_) | Note::LeadingZero | Note::NoInitiator(_) => None,
+        Note::HasName(entry) => (Some(entry), text("has the name already")),
+        Note::Unlinked => (None, text("no link is at this node")),
+        Note::LinkHere(link) => (Some(Section::Link(link)), text("is at this node")),
+        Note::HasPort(link, end) => (
+            Some(Section::Link(link)),
+            format!(in alloc; "has the port of '{}' already", end.text()),
+        ),
+        Note::IsFor(switch, route, first, last) => (
+            Some(Section::Route(switch, route)),
+            format!(in alloc; "is for the addresses from {first} to {last}"),
+        ),
+        Note::LongPath(count) => (None, format!(in alloc; "the path has {count} numbers")),
+        Note::LeadingZero => (None, text("the path begins with 0")),
+        Note::NoInitiator(initiator) => (
+            None,
+            format!(in alloc; "the initiator is {initiator}, which is no logical address"),
+        ),
+        Note::NoTarget(node) => (
+            Some(Section::Node(node)),
+            text("is where the flow ends, and has no 'target'"),
+        ),
     }
 }
 
-// What is noted.
-fn note_words(alloc: Global, note: Note) -> Result<String, AllocError> {
-    match note {
-        Note::HasName(_) => String::from_str(alloc, "has the name already"),
-        Note::Unlinked => String::from_str(alloc, "no link is at this node"),
-        Note::LinkHere(_) => String::from_str(alloc, "is at this node"),
-        Note::HasPort(_, end) => {
-            let end = end.text();
-            format!(in alloc; "has the port of '{end}' already")
-        }
-        Note::IsFor(_, _, first, last) => {
-            format!(in alloc; "is for the addresses from {first} to {last}")
-        }
-        Note::LongPath(count) => format!(in alloc; "the path has {count} numbers"),
-        Note::LeadingZero => String::from_str(alloc, "the path begins with 0"),
-        Note::NoInitiator(initiator) => {
-            format!(in alloc; "the initiator is {initiator}, which is no logical address")
-        }
-        Note::NoTarget(_) => {
-            String::from_str(alloc, "is where the flow ends, and has no 'target'")
-        }
-    }
-}
-
-// An entry, and the line and column where it stands, if that is found.
-fn subject(alloc: Global, text: &[u8], section: Option<Section>) -> Result<String, AllocError> {
-    let Some(section) = section else {
-        return Ok(String::new(alloc));
+/// A note in words: the entry, with the line and column where it stands, if that is found, and what is noted.
+pub(crate) fn note_text(alloc: Global, text: &[u8], note: Note) -> Made<String> {
+    let (entry, words) = entry_and_words(alloc, note);
+    let words = words?;
+    let Some(section) = entry else {
+        return Ok(words);
     };
     let entry = entry_text(alloc, section)?;
     let Some(at) = place_of(alloc, text, Sought { section, key: None })? else {
-        return format!(in alloc; "{entry} ");
+        return format!(in alloc; "{entry} {words}");
     };
     let Position { line, column } = position_at(text, at);
-    format!(in alloc; "{entry} at {line}:{column} ")
-}
-
-/// Adds the words of a note.
-///
-/// # Errors
-///
-/// There is no memory for them, or to find the entry's place.
-pub(crate) fn add_note_words(
-    alloc: Global,
-    text: &[u8],
-    note: Note,
-    notes: &mut Vec<String>,
-) -> Result<(), AllocError> {
-    let subject = subject(alloc, text, entry_of(note))?;
-    let words = note_words(alloc, note)?;
-    notes.push(format!(in alloc; "{subject}{words}")?)?;
-    Ok(())
+    format!(in alloc; "{entry} at {line}:{column} {words}")
 }

@@ -5,8 +5,7 @@ ghost use Rattle.sw_faults.specs.Places.{Holds, IsPiece, IsPlace, Reads, has};
 
 use crate::frame::Frame;
 use crate::lookup::{table_of, value_of};
-use crate::proposal::Proposal;
-use crate::scan::proposed;
+use crate::scan::{Proposal, proposed};
 use crate::sought::Sought;
 use crate::unread::text_fault;
 use std::alloc::{AllocError, Global};
@@ -111,9 +110,8 @@ pub(crate) fn place_of(
     let Ok(words) = std::str::from_utf8(text) else {
         return Ok(None);
     };
-    let mut frames = Vec::new(alloc);
-    match proposed(alloc, words, &sought, &mut frames) {
-        Ok(Some(piece)) => place_by(alloc, text, &sought, piece, &frames),
+    match proposed(alloc, words, sought) {
+        Ok(Some((piece, frames))) => place_by(alloc, text, &sought, piece, &frames),
         Ok(None) | Err(ParseError::At(_, _, _)) => Ok(None),
         Err(ParseError::OutOfMemory) => Err(AllocError),
     }

@@ -1,7 +1,7 @@
 //! Texts that could not be read.
 ghost use Rattle.std.specs.Prelude.{◌≡◌, IfErr, IfOk};
 ghost use Rattle.sw_faults.specs.Entries.{IsOfText};
-ghost use Rattle.sw_text.specs.declared.fault.FileFault.TheVariants.{Memory};
+ghost use Rattle.sw_text.specs.declared.fault.OrMemory.TheVariants.{Memory};
 
 use std::alloc::AllocError;
 use sw_text::FileFault;
@@ -16,7 +16,7 @@ pub fn text_fault(fault: FileFault) -> Result<(), AllocError>
     ensures unread { IfErr result (λ _. fault ≡ Memory) }
 {
     match fault {
-        FileFault::Text(_) => Ok(()),
+        FileFault::Fault(_) => Ok(()),
         FileFault::Memory => Err(AllocError),
     }
 }

@@ -12,8 +12,7 @@ use Rattle.sw_text.specs.declared.keys.Section.TheVariants.{Document}
 use Rattle.sw_text.specs.Table.{tables_or_none}
 use Rattle.sw_text.specs.declared.fault.TextFault.{TextFault}
 use Rattle.sw_text.specs.declared.fault.TextFault.TheVariants as fault
-use Rattle.sw_text.specs.declared.fault.FileFault.{FileFault}
-use Rattle.sw_text.specs.Gives.{◌>>=◌, Fails, Gives, walk, each}
+use Rattle.sw_text.specs.Gives.{◌>>=◌, FileFault, Fails, Gives, walk, each}
 use Rattle.sw_text.proofs.Walks.{walk_fails, walk_done, each_fails}
 use Rattle.sw_file.specs.Network.{entries}
 use Rattle.sw_file.specs.Lists.{list_key, most_parts}

@@ -8,9 +8,8 @@ use Rattle.toml.specs.View.{view, table_view}
 use Rattle.toml.proofs.Views.{view-Table}
 use Rattle.sw_text.specs.declared.keys.Key.TheVariants.{Version as VersionKey, Switch}
 use Rattle.sw_text.specs.declared.fault.TextFault.{TextFault}
-use Rattle.sw_text.specs.declared.fault.FileFault.{FileFault}
-use Rattle.sw_text.specs.declared.fault.FileFault.TheVariants as file
-use Rattle.sw_text.specs.Gives.{◌>>=◌, Fails, Gives, each}
+use Rattle.sw_text.specs.declared.fault.OrMemory.TheVariants as file
+use Rattle.sw_text.specs.Gives.{◌>>=◌, FileFault, Fails, Gives, each}
 use Rattle.sw_text.proofs.Walks.{each_fails, each_done}
 use Rattle.sw_file.specs.Rows.{Row}
 use Rattle.sw_file.specs.Tree.{with_key, with_tables, row_table, new_switches, as_values, migrated}
@@ -33,7 +32,7 @@ row_more f items i x values new t lt at so_far put is =
 
 fails_then : {A B : Type 0} (e : FileFault) (r : Result A TextFault) (f : A → Result B TextFault) → Fails e r → Fails e (r >>= f)
 fails_then file.Memory r f failed = tt
-fails_then (file.Text e) r f failed = rw failed refl
+fails_then (file.Fault e) r f failed = rw failed refl
 
 module _ {A X Y : Type 0} (one : Y → Result A TextFault) (f : X → Y) (tables : Result (List Y) TextFault) (listed items : List X) (read : tables ≡ Ok (map f listed)) (same : items ≡ listed) where
   -- what is read of the entry at i fails, and with it what is made of all
@@ -73,4 +72,4 @@ migrated_is ms put new values read is puts =
 pub migrated_fails : (ms : Members) (e : FileFault) → Fails e (as_values (new_switches ms)) → Fails e (migrated ms)
 unfolding migrated
 migrated_fails ms file.Memory failed = tt
-migrated_fails ms (file.Text e) failed = rw (first_fails (new_switches ms) (map table) e failed) refl
+migrated_fails ms (file.Fault e) failed = rw (first_fails (new_switches ms) (map table) e failed) refl

@@ -5,9 +5,8 @@ use Rattle.toml.specs.Text.{IsDocumentText}
 use Rattle.sw_config.specs.Entries.{Declaration}
 use Rattle.sw_text.specs.declared.keys.Version.TheVariants.{One, Two}
 use Rattle.sw_text.specs.declared.fault.TextFault.{TextFault}
-use Rattle.sw_text.specs.declared.fault.FileFault.{FileFault}
-use Rattle.sw_text.specs.declared.fault.FileFault.TheVariants as file
-use Rattle.sw_text.specs.Gives.{Fails}
+use Rattle.sw_text.specs.declared.fault.OrMemory.TheVariants as file
+use Rattle.sw_text.specs.Gives.{FileFault, Fails}
 use Rattle.sw_text.specs.Document.{document_of}
 use Rattle.sw_file.specs.Network.{version_of, network_of}
 use Rattle.sw_file.specs.Tree.{migrated}
@@ -23,7 +22,7 @@ unfolding network_of
 version_fails ms fault failed = rw failed refl
 
 pub version_refused : (ms : Members) (e : FileFault) → Fails e (version_of ms) → RefusesTree ms (refusal e)
-version_refused ms (file.Text fault) failed = version_fails ms fault failed
+version_refused ms (file.Fault fault) failed = version_fails ms fault failed
 version_refused ms file.Memory failed = tt
 
 -- what is known of the migrated tree
@@ -53,7 +52,7 @@ pub valid : (tree new : Members) (old : DeclaresAs One tree) → members_are_sor
 valid tree new old sorted well = (new_is tree new old sorted well).plain.valid
 
 pub never_fails : (tree : Members) (bytes : List ℕ) (old : DeclaresAs One tree) (e : FileFault) → Fails e (migrated tree) → Refuses bytes (refusal e)
-never_fails tree bytes old (file.Text fault) failed =
+never_fails tree bytes old (file.Fault fault) failed =
     let is = migrated_tree tree old.network old.declared old.versioned in
     let both : ◌≡◌ {A = Result Members TextFault} (Ok (new_tree is.tables tree)) (Err fault) = sym (migrated_is tree is.tables is.switches) ∙ failed in
     absurd cc

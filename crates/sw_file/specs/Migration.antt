@@ -6,10 +6,12 @@ use Rattle.toml.specs.Text.{IsDocumentText}
 use Rattle.sw_config.specs.Entries.{Declaration, look_at}
 use Rattle.sw_text.specs.declared.keys.Version.{Version}
 use Rattle.sw_text.specs.declared.keys.Version.TheVariants.{One, Two, Three}
+use Rattle.sw_text.specs.declared.fault.OrMemory.{OrMemory}
+use Rattle.sw_text.specs.declared.fault.OrMemory.TheVariants.{Fault, Memory}
 use Rattle.sw_text.specs.Document.{document_of}
 use Rattle.sw_file.specs.Network.{version_of, network_of, network_text}
 use Rattle.sw_file.specs.declared.fault.MigrateFault.{MigrateFault}
-use Rattle.sw_file.specs.declared.fault.MigrateFault.TheVariants.{Text, NotOld, Memory}
+use Rattle.sw_file.specs.declared.fault.MigrateFault.TheVariants.{Text, NotOld}
 use Rattle.sw_file.specs.Tree.{migrated}
 
 -- The same network: nodes with their targets, links with their capacities, and flows are equal, and the switches are as many, of the same
@@ -42,12 +44,12 @@ pub record IsMigration (bytes text : List ℕ) : Type 0 where
   pub same : IsSameNetwork old.network new.network
 
 -- Why a text is not migrated: it has this first fault, or it is that of a network of version 2 or 3 already. Memory can always be wanting.
-abbrev pub Refuses : List ℕ → MigrateFault → Type 0
-Refuses bytes (Text fault) = network_text bytes ≡ Err fault
-Refuses bytes NotOld = (tree : Members) × (document_of bytes ≡ Ok tree) × (DeclaresAs Two tree ⊎ DeclaresAs Three tree)
+abbrev pub Refuses : List ℕ → OrMemory MigrateFault → Type 0
+Refuses bytes (Fault (Text fault)) = network_text bytes ≡ Err fault
+Refuses bytes (Fault NotOld) = (tree : Members) × (document_of bytes ≡ Ok tree) × (DeclaresAs Two tree ⊎ DeclaresAs Three tree)
 Refuses bytes Memory = Unit {0}
 
 -- what migrating gave
-abbrev pub Migrates : List ℕ → Result (Vec ℕ Global) MigrateFault → Type 0
+abbrev pub Migrates : List ℕ → Result (Vec ℕ Global) (OrMemory MigrateFault) → Type 0
 Migrates bytes (Ok text) = IsMigration bytes text.items
 Migrates bytes (Err fault) = Refuses bytes fault

@@ -33,7 +33,7 @@ fn entries<'a>(
 {
     let tables = document.tables_or_none(alloc, key)?;
     if tables.len() > most as usize {
-        return Err(FileFault::Text(over));
+        return Err(FileFault::Fault(over));
     }
     Ok(tables)
 }
@@ -214,7 +214,7 @@ pub fn declared_network(alloc: Global, table: &Table) -> Result<Network, FileFau
     let builder = parts(alloc, version, &document)?;
     match builder.wire(alloc) {
         Ok(network) => with_flows(alloc, version, &document, network),
-        Err(TopoError::Fault(fault)) => Err(FileFault::Text(TextFault::Topology(fault))),
+        Err(TopoError::Fault(fault)) => Err(FileFault::Fault(TextFault::Topology(fault))),
         Err(TopoError::Memory) => Err(FileFault::Memory),
     }
 }

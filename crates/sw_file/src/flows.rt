@@ -86,7 +86,7 @@ fn replies_at(
     let outstanding = outstanding_or_none(&entry)?;
     let reply = Reply::new(path, initiator, outstanding);
     if !can_reply(network, to, &reply) {
-        return Err(FileFault::Text(TextFault::ReplyShape(index)));
+        return Err(FileFault::Fault(TextFault::ReplyShape(index)));
     }
     Ok(Some(reply))
 }

@@ -8,22 +8,25 @@ ghost use Rattle.sw_file.specs.Migration.{Migrates};
 ghost use Rattle.sw_file.specs.Seen.{Admits};
 
 use crate::document::{declared_network, declared_version};
-use crate::fault::MigrateFault;
+use crate::fault::{MigrateFault, refusal};
 use crate::order::table_ascends;
 use crate::tree::migrate_table;
 use std::alloc::{AllocError, Global};
-use sw_text::{Version, read_document};
+use sw_text::{OrMemory, Version, read_document};
 use toml::Table;
 
 /// Refuses a table that declares no network, or one of a file of version 2 or 3.
-fn admit(alloc: Global, table: &Table) -> Result<(), MigrateFault>
+fn admit(alloc: Global, table: &Table) -> Result<(), OrMemory<MigrateFault>>
     ensures { Admits (table_view table.now) result }
 {
-    let network = declared_network(alloc, table)?;
-    network.discard();
-    match declared_version(alloc, table)? {
-        Version::One => Ok(()),
-        Version::Two | Version::Three => Err(MigrateFault::NotOld),
+    match declared_network(alloc, table) {
+        Ok(network) => network.discard(),
+        Err(fault) => return Err(refusal(fault)),
+    }
+    match declared_version(alloc, table) {
+        Ok(Version::One) => Ok(()),
+        Ok(Version::Two | Version::Three) => Err(OrMemory::Fault(MigrateFault::NotOld)),
+        Err(fault) => Err(refusal(fault)),
     }
 }
 
@@ -41,14 +44,15 @@ fn text_of(alloc: Global, table: &Table) -> Result<Vec<u8>, AllocError>
 }
 
 /// The text of the table made one of version 2: of each text whose document has the table, this is what migrating it gives.
-fn migrated_text(alloc: Global, table: &mut Table) -> Result<Vec<u8>, MigrateFault>
+fn migrated_text(alloc: Global, table: &mut Table) -> Result<Vec<u8>, OrMemory<MigrateFault>>
     ensures { (bytes : List ℕ) → document_of bytes ≡ Ok (table_view table.old) → Migrates bytes result }
 {
     admit(alloc, table)?;
     table_ascends(table);
-    migrate_table(alloc, table)?;
-    let text = text_of(alloc, table)?;
-    Ok(text)
+    match migrate_table(alloc, table) {
+        Ok(()) => Ok(text_of(alloc, table)?),
+        Err(fault) => Err(refusal(fault)),
+    }
 }
 
 /// The text of the file as one of version 2: a TOML text of its tree with `version = 2`, in which each longest row of neighbouring entries of
@@ -58,9 +62,9 @@ fn migrated_text(alloc: Global, table: &mut Table) -> Result<Vec<u8>, MigrateFau
 ///
 /// `Text`: the first fault of the text. `NotOld`: it declares a network, but is of version 2 or 3. `Memory`: there is no memory for what is
 /// read and written; this tells nothing of the text.
-pub fn migrate(alloc: Global, bytes: &[u8]) -> Result<Vec<u8>, MigrateFault>
+pub fn migrate(alloc: Global, bytes: &[u8]) -> Result<Vec<u8>, OrMemory<MigrateFault>>
     ensures { Migrates bytes.now result }
 {
-    let mut table = read_document(alloc, bytes)?;
+    let mut table = read_document(alloc, bytes).map_err(refusal)?;
     migrated_text(alloc, &mut table)
 }

@@ -96,7 +96,7 @@ fn add_route(
     match routes.add_range(route.first, route.last, route.ports, route.delete) {
         Ok(()) => Ok(()),
         Err(RouteError::Duplicate) => {
-            Err(FileFault::Text(TextFault::DuplicateRoute(switch, index)))
+            Err(FileFault::Fault(TextFault::DuplicateRoute(switch, index)))
         }
         Err(RouteError::Memory) => Err(FileFault::Memory),
     }

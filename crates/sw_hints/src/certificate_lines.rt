@@ -1,5 +1,5 @@
 //! The hint of a line of a certificate's text that is not as the grammar asks.
-use crate::text_lines::{add_line, line_hint, nth_line};
+use crate::text_lines::{line_hint, nth_line};
 use std::alloc::{AllocError, Global};
 use sw_cert::{MAX_ADDRESS, MAX_NUMBER};
 use sw_faults::Hint;
@@ -23,9 +23,10 @@ fn expected_after(before: &[u8]) -> &'static str {
 // The channel of a line of a place, and how many address bytes are deleted there.
 fn place_in(line: &[u8]) -> Option<(u32, u32)> {
     let (channel, deleted) = cut(line.strip_prefix(b"place ")?, b' ')?;
-    let channel = number(channel, MAX_NUMBER)?;
-    let deleted = number(deleted, u32::from(MAX_ADDRESS))?;
-    Some((channel, deleted))
+    Some((
+        number(channel, MAX_NUMBER)?,
+        number(deleted, u32::from(MAX_ADDRESS))?,
+    ))
 }
 
 // How many of the lines before this one begin a flow.
@@ -36,47 +37,25 @@ fn flows_before(text: &[u8], line: usize) -> usize {
         .count()
 }
 
-// That a place of a flow does not rise above the one before it.
-fn order_note(
-    alloc: Global,
-    flow: usize,
-    last: (u32, u32),
-    place: (u32, u32),
-) -> Result<String, AllocError> {
-    let (channel, deleted) = place;
-    let (last_channel, last_deleted) = last;
-    format!(in alloc;
-        "place {channel} {deleted} of flow {flow} stands behind place {last_channel} {last_deleted}"
-    )
-}
-
-// Says what would be right, and whether the line is a place that does not rise above the one before it.
-fn fill(alloc: Global, text: &[u8], line: usize, hint: &mut Hint) -> Result<(), AllocError> {
-    let before = nth_line(text, line.saturating_sub(1));
-    hint.expected = String::from_str(alloc, expected_after(before))?;
-    match (place_in(before), place_in(nth_line(text, line))) {
-        (Some(last), Some(place)) if last >= place => {
-            let flow = flows_before(text, line).saturating_sub(1);
-            add_line(&mut hint.notes, order_note(alloc, flow, last, place)?)
-        }
-        _ => Ok(()),
-    }
-}
-
-/// The hint of the line of a certificate's text, counted from 1, that is not as the grammar asks.
+/// The hint of the line of a certificate's text, counted from 1, that is not as the grammar asks: what would be right, and whether it is a place that does
+/// not rise above the one before it.
 ///
 /// # Errors
 ///
 /// There is no memory for the hint.
 pub fn certificate_line_hint(alloc: Global, text: &[u8], line: usize) -> Result<Hint, AllocError> {
     let what = format!(in alloc; "refused C1 Grammar {line}: the line is not as the grammar asks")?;
-    let words = nth_line(text, line);
-    let mut hint = line_hint(alloc, line, words, words, what)?;
-    match fill(alloc, text, line, &mut hint) {
-        Ok(()) => Ok(hint),
-        Err(refused) => {
-            drop(hint);
-            Err(refused)
-        }
+    let (words, before) = (nth_line(text, line), nth_line(text, line.saturating_sub(1)));
+    let expected = String::from_str(alloc, expected_after(before));
+    let mut hint = line_hint(alloc, line, words, words, what, expected)?;
+    if let (Some(last), Some(place)) = (place_in(before), place_in(words))
+        && last >= place
+    {
+        let flow = flows_before(text, line).saturating_sub(1);
+        let ((channel, deleted), (last_channel, last_deleted)) = (place, last);
+        hint.notes.push(format!(in alloc;
+            "place {channel} {deleted} of flow {flow} stands behind place {last_channel} {last_deleted}"
+        )?)?;
     }
+    Ok(hint)
 }

@@ -4,23 +4,15 @@
 
 mod certificate_hints;
 mod certificate_lines;
-mod changes;
 mod flow_hints;
 mod load_hints;
 mod lock_up;
-mod lock_up_channels;
-mod lock_up_nodes;
-mod lock_up_switches;
-mod names;
-mod near_names;
+mod misrouted;
 mod refused_steps;
 mod schedule_lines;
-mod step_needs;
 mod step_words;
+mod teller;
 mod text_lines;
-mod undeclared;
-mod ways;
-mod wrong_word;
 
 pub use certificate_hints::refused_certificate_hint;
 pub use certificate_lines::certificate_line_hint;

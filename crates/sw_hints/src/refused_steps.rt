@@ -1,16 +1,17 @@
 //! The hint of a step of a schedule that can't be made.
-use crate::step_needs::needs;
+use crate::teller::{Teller, Text};
 use crate::text_lines::nth_line;
 use std::alloc::{AllocError, Global};
 use sw_config::Network;
 use sw_faults::{Hint, found_at};
+use sw_output::{flow_name, node_name};
 use sw_schedule::{Schedule, ScheduleEntry, ScheduleFault, Step, StepRefusal, read_steps};
 
 // How many steps a line lists.
 fn steps_in(alloc: Global, network: &Network, line: &[u8]) -> Result<u32, AllocError> {
     match read_steps(alloc, network, line) {
         Ok(schedule) => Ok(schedule.total()),
-        Err(ScheduleFault::BadLine(_)) => Ok(0),
+        Err(ScheduleFault::Fault(_)) => Ok(0),
         Err(ScheduleFault::Memory) => Err(AllocError),
     }
 }
@@ -33,42 +34,102 @@ fn line_with(
     Ok(None)
 }
 
-// The step of that number, counted from 1, if there are so many.
-fn step_numbered(
-    alloc: Global,
-    entries: &[ScheduleEntry],
-    number: u32,
-) -> Result<Option<Step>, AllocError> {
+// The entry with the step of that number, counted from 1, if there are so many.
+fn entry_with(entries: &[ScheduleEntry], number: u32) -> Option<&ScheduleEntry> {
     let mut left = number;
     for entry in entries {
-        let count = entry.count();
-        if left <= count {
-            return Ok(Some(entry.step(alloc)?));
+        if left <= entry.count() {
+            return Some(entry);
         }
-        left -= count;
+        left -= entry.count();
     }
-    Ok(None)
+    None
 }
 
-// What would be right in the place of the step of that number.
-fn expected(
-    alloc: Global,
-    network: &Network,
-    schedule: &Schedule,
-    number: u32,
-    refusal: StepRefusal,
-) -> Result<String, AllocError> {
-    match step_numbered(alloc, schedule.entries(), number)? {
-        Some(step) => needs(alloc, network, &step, refusal),
-        None => Ok(String::new(alloc)),
+impl Teller<'_> {
+    // What a step needs to be possible.
+    fn to_be_possible(self, step: &Step) -> Text {
+        let (alloc, network) = (self.alloc, self.network);
+        match step {
+            Step::Fct(channel) => format!(in alloc;
+                "room for eight characters more at the end of channel {}, and at most 48 that were asked for and did not arrive",
+                channel.number()
+            ),
+            Step::FctIn(channel) => format!(in alloc;
+                "an FCT for channel {} that was sent and did not arrive: fct sends one",
+                channel.number()
+            ),
+            Step::Arrive(channel) => format!(in alloc;
+                "a character on the wire of channel {}: emit or forward sends one",
+                channel.number()
+            ),
+            Step::Grant(output, input) => format!(in alloc;
+                "an input from channel {} that holds nothing, with a header in front that names channel {}, which no input holds",
+                input.number(),
+                output.number()
+            ),
+            Step::Drop(channel) => format!(in alloc;
+                "an input from channel {} that holds nothing, with a byte in front that names no output, or with a packet's end",
+                channel.number()
+            ),
+            Step::Forward(channel) => format!(in alloc;
+                "an input from channel {} that holds an output, credit for that, and a character in front",
+                channel.number()
+            ),
+            Step::Spill(channel) => format!(in alloc;
+                "an input from channel {} that discards a packet, and a character in front",
+                channel.number()
+            ),
+            Step::Begin { flow, .. } => format!(in alloc;
+                "a node that sends nothing, with no reply that waits, where flow {} starts",
+                flow_name(network, *flow)
+            ),
+            Step::Emit(node) => format!(in alloc;
+                "a character that {} has still to send, and credit for it: fctin brings some",
+                node_name(network, *node)
+            ),
+            Step::Accept(node) => format!(in alloc;
+                "a character that came in at {}, which owes fewer replies than it has slots",
+                node_name(network, *node)
+            ),
+            Step::Reply(node) => format!(in alloc;
+                "a reply that waits at {}, which sends nothing",
+                node_name(network, *node)
+            ),
+        }
     }
-}
 
-fn refused_words(refusal: StepRefusal) -> &'static str {
-    match refusal {
-        StepRefusal::NotEnabled => "is not possible when the steps before it are made",
-        StepRefusal::NotInFlow => "begins a packet that its flow does not declare",
-        StepRefusal::OverLimit => "begins a command more than may be unanswered",
+    // What a further command of the flow needs, if the node where it ends has a limit.
+    fn within_limit(self, flow: u16) -> Text {
+        let Some(flow) = self.flow(flow) else {
+            return self.text("");
+        };
+        let name = node_name(self.network, flow.to());
+        match self.network.limit_at(flow.to()) {
+            Some(limit) => format!(in self.alloc;
+                "a reply sent whole by {name}: as many commands to it are unanswered as its limit, {limit}"
+            ),
+            None => self.text(""),
+        }
+    }
+
+    // What a packet has to be that its flow declares.
+    fn to_be_declared(self, flow: u16) -> Text {
+        self.text(if self.is_limited(flow) {
+            "an RMAP command that the target answers, and whose reply goes where the flow's 'reply' says, since the flow is limited: swcheck rmap tells its cargo"
+        } else {
+            "no command that the target would answer, or one whose reply goes where the flow's 'reply' says"
+        })
+    }
+
+    // What the step needs that was refused so.
+    fn needs(self, step: &Step, refusal: StepRefusal) -> Text {
+        match (refusal, step) {
+            (StepRefusal::NotEnabled, step) => self.to_be_possible(step),
+            (StepRefusal::NotInFlow, Step::Begin { flow, .. }) => self.to_be_declared(*flow),
+            (StepRefusal::OverLimit, Step::Begin { flow, .. }) => self.within_limit(*flow),
+            _ => self.text(""),
+        }
     }
 }
 
@@ -85,13 +146,22 @@ pub fn refused_step_hint(
     number: u32,
     refusal: StepRefusal,
 ) -> Result<Hint, AllocError> {
+    let teller = Teller { alloc, network };
     let line = line_with(alloc, network, text, number)?;
-    let found = found_at(alloc, nth_line(text, line.unwrap_or(0)), 0)?;
-    let expected = expected(alloc, network, schedule, number, refusal)?;
-    let words = refused_words(refusal);
-    let mut hint = Hint::new(alloc, format!(in alloc; "step {number} {words}")?);
-    hint.line = line;
-    hint.found = found;
-    hint.expected = expected;
-    Ok(hint)
+    let expected = match entry_with(schedule.entries(), number) {
+        Some(entry) => teller.needs(&entry.step(alloc)?, refusal),
+        None => teller.text(""),
+    }?;
+    let words = match refusal {
+        StepRefusal::NotEnabled => "is not possible when the steps before it are made",
+        StepRefusal::NotInFlow => "begins a packet that its flow does not declare",
+        StepRefusal::OverLimit => "begins a command more than may be unanswered",
+    };
+    let what = format!(in alloc; "step {number} {words}")?;
+    Ok(Hint {
+        line,
+        found: found_at(alloc, nth_line(text, line.unwrap_or(0)), 0)?,
+        expected,
+        ..Hint::new(alloc, what)
+    })
 }

@@ -1,18 +1,14 @@
 //! The hint of a line of a schedule's text that is no step.
-use crate::near_names::{meant, meant_flow, meant_node};
-use crate::step_words::{VERBS, Wanted, as_text};
+use crate::step_words::{VERBS, Wanted, Wrong, first_name};
+use crate::teller::{Teller, Text};
 use crate::text_lines::{line_hint, nth_line};
-use crate::wrong_word::{Wrong, first_word, wrong_of};
 use std::alloc::{AllocError, Global};
 use sw_config::Network;
-use sw_faults::Hint;
+use sw_faults::{Hint, meant_help};
 
 // What is wrong with a word.
-fn what_words(wrong: Wrong<'_>) -> &'static str {
-    if wrong.rest.is_none() {
-        return "a word is missing";
-    }
-    match wrong.wanted {
+fn wrong_words(wanted: Wanted) -> &'static str {
+    match wanted {
         Wanted::Verb => "no step begins so",
         Wanted::Channel => "this is no channel of the network",
         Wanted::Node => "this is no node",
@@ -23,98 +19,43 @@ fn what_words(wrong: Wrong<'_>) -> &'static str {
     }
 }
 
-// What would be right, in words that hold of any network.
-fn expected_words(wanted: Wanted) -> &'static str {
-    match wanted {
-        Wanted::Verb => {
-            "one of fct, fctin, arrive, grant, drop, spill, forward, begin, emit, accept, reply, or a count from 1 to 100000 before it"
+impl Teller<'_> {
+    // What would be right; no more steps, where no other word is wanted.
+    fn right_words(self, wanted: Option<Wanted>) -> Text {
+        let Some(wanted) = wanted else {
+            return self.text("at most 1000000 steps in all");
+        };
+        match wanted {
+            Wanted::Verb => format!(in self.alloc;
+                "one of {}, or a count from 1 to 100000 before it",
+                VERBS.join(self.alloc, ", ")?
+            ),
+            Wanted::Channel => format!(in self.alloc;
+                "the number of a channel, below {}",
+                self.network.channels()
+            ),
+            Wanted::Node => self.text("the name of a node"),
+            Wanted::Flow => self.text("the name of a declared flow"),
+            Wanted::End => self.text("EOP or EEP"),
+            Wanted::Cargo => self.text(
+                "1 to 4096 bytes: pairs of hexadecimal digits, or one pair, '*' and a number from 1 to 4096, without spaces",
+            ),
+            Wanted::Nothing => self.text("the end of the line; one space stands between two words"),
         }
-        Wanted::Channel => "the number of a channel",
-        Wanted::Node => "the name of a node",
-        Wanted::Flow => "the name of a declared flow",
-        Wanted::End => "EOP or EEP",
-        Wanted::Cargo => {
-            "1 to 4096 bytes: pairs of hexadecimal digits, or one pair, '*' and a number from 1 to 4096, without spaces"
+    }
+
+    // What to do about the word that a rest of a line begins with.
+    fn word_help(self, wanted: Option<Wanted>, rest: &[u8]) -> Text {
+        match (wanted, first_name(rest)) {
+            (Some(Wanted::Verb), Some(name)) => meant_help(self.alloc, name, VERBS),
+            (Some(Wanted::Node), Some(name)) => self.meant_node(name),
+            (Some(Wanted::Flow), Some(name)) => self.meant_flow(
+                name,
+                self.network.declared_flows(),
+            ),
+            _ => self.text(""),
         }
-        Wanted::Nothing => "the end of the line; one space stands between two words",
     }
-}
-
-// What would be right.
-fn expected(alloc: Global, network: &Network, wanted: Wanted) -> Result<String, AllocError> {
-    let words = expected_words(wanted);
-    match wanted {
-        Wanted::Channel => {
-            let channels = network.channels();
-            format!(in alloc; "{words}, below {channels}")
-        }
-        _ => String::from_str(alloc, words),
-    }
-}
-
-// What to do about the word that a rest of a line begins with.
-fn help(
-    alloc: Global,
-    network: &Network,
-    wanted: Wanted,
-    rest: &[u8],
-) -> Result<String, AllocError> {
-    let (word, _) = first_word(rest);
-    let Some(name) = as_text(word) else {
-        return Ok(String::new(alloc));
-    };
-    match wanted {
-        Wanted::Verb => meant(alloc, name, VERBS),
-        Wanted::Node => meant_node(alloc, network, name),
-        Wanted::Flow => meant_flow(alloc, network, name),
-        _ => Ok(String::new(alloc)),
-    }
-}
-
-// What to do about a line with a wrong word.
-fn help_of(alloc: Global, network: &Network, wrong: Wrong<'_>) -> Result<String, AllocError> {
-    match wrong.rest {
-        Some(rest) => help(alloc, network, wrong.wanted, rest),
-        None => Ok(String::new(alloc)),
-    }
-}
-
-// The hint of the line of this number that is wrong from this rest of it on.
-fn hint_from(
-    alloc: Global,
-    number: u64,
-    line: &[u8],
-    rest: &[u8],
-    what: &str,
-) -> Result<Hint, AllocError> {
-    let what = format!(in alloc; "fault S1 BadLine {number}: {what}")?;
-    line_hint(alloc, number as usize, line, rest, what)
-}
-
-// The hint of a line with a wrong word.
-fn word_hint(
-    alloc: Global,
-    network: &Network,
-    number: u64,
-    line: &[u8],
-    wrong: Wrong<'_>,
-) -> Result<Hint, AllocError> {
-    let expected = expected(alloc, network, wrong.wanted)?;
-    let help = help_of(alloc, network, wrong)?;
-    let rest = wrong.rest.unwrap_or(&[]);
-    let mut hint = hint_from(alloc, number, line, rest, what_words(wrong))?;
-    hint.expected = expected;
-    hint.help = help;
-    Ok(hint)
-}
-
-// The hint of a line that is a step.
-fn limit_hint(alloc: Global, number: u64, line: &[u8]) -> Result<Hint, AllocError> {
-    let expected = String::from_str(alloc, "at most 1000000 steps in all")?;
-    let what = "with this line there are too many steps";
-    let mut hint = hint_from(alloc, number, line, line, what)?;
-    hint.expected = expected;
-    Ok(hint)
 }
 
 /// The hint of the line of a schedule's text, counted from 1, that is no step of this network, or with which there are too many steps.
@@ -128,9 +69,21 @@ pub fn schedule_line_hint(
     text: &[u8],
     line: u64,
 ) -> Result<Hint, AllocError> {
+    let teller = Teller { alloc, network };
     let words = nth_line(text, line as usize);
-    match wrong_of(alloc, network, words)? {
-        Some(wrong) => word_hint(alloc, network, line, words, wrong),
-        None => limit_hint(alloc, line, words),
-    }
+    let (what, rest, wanted) = match teller.wrong_in(words)? {
+        Some(
+            Wrong {
+                rest: Some(rest),
+                wanted,
+            },
+        ) => (wrong_words(wanted), rest, Some(wanted)),
+        Some(Wrong { rest: None, wanted }) => ("a word is missing", [].as_slice(), Some(wanted)),
+        None => ("with this line there are too many steps", words, None),
+    };
+    let what = format!(in alloc; "fault S1 BadLine {line}: {what}")?;
+    let expected = teller.right_words(wanted);
+    let mut hint = line_hint(alloc, line as usize, words, rest, what, expected)?;
+    hint.help = teller.word_help(wanted, rest)?;
+    Ok(hint)
 }

@@ -1,10 +1,10 @@
 //! What the words of a schedule's line have to be.
-use std::alloc::{AllocError, Global};
+use crate::teller::Teller;
+use std::alloc::AllocError;
 use std::str;
-use sw_config::Network;
 use sw_load::{count_of, hex_pair, pairs_of};
 use sw_schedule::{MAX_COUNT, MAX_NUMBER};
-use sw_text::number;
+use sw_text::{cut, number};
 
 /// The words that steps begin with.
 pub(crate) const VERBS: &[&str] = &[
@@ -25,77 +25,87 @@ pub(crate) enum Wanted {
     Nothing,
 }
 
-/// The word, if it is UTF-8.
-pub(crate) fn as_text(word: &[u8]) -> Option<&str> {
-    str::from_utf8(word).ok()
+/// What is wrong in a line: the rest of it from the first wrong word on, none where a word lacks, and what has to stand there.
+#[derive(Clone, Copy)]
+pub(crate) struct Wrong<'a> {
+    pub(crate) rest: Option<&'a [u8]>,
+    pub(crate) wanted: Wanted,
 }
 
-fn is_channel(network: &Network, word: &[u8]) -> bool {
-    match number(word, MAX_NUMBER) {
-        Some(number) => number < u32::from(network.channels()),
-        None => false,
+/// The first word of a line, and what stands behind it.
+fn first_word(line: &[u8]) -> (&[u8], Option<&[u8]>) {
+    match cut(line, b' ') {
+        Some((word, rest)) => (word, Some(rest)),
+        None => (line, None),
     }
 }
 
-fn is_node(network: &Network, word: &[u8]) -> bool {
-    match as_text(word) {
-        Some(name) => network.node_named(name).is_some(),
-        None => false,
-    }
+/// The first word of a line, if it is UTF-8.
+pub(crate) fn first_name(line: &[u8]) -> Option<&str> {
+    str::from_utf8(first_word(line).0).ok()
 }
 
-fn is_flow(network: &Network, word: &[u8]) -> bool {
-    match as_text(word) {
-        Some(name) => network.declared_flow_named(name).is_some(),
-        None => false,
-    }
-}
-
-fn is_cargo(alloc: Global, word: &[u8]) -> Result<bool, AllocError> {
-    match word {
-        [high, low, b'*', times @ ..] => {
-            Ok(hex_pair(*high, *low).is_some() && count_of(times).is_some())
-        }
-        word => Ok(pairs_of(alloc, word)?.is_some()),
-    }
-}
-
-/// Is a word, behind the first one of a step, as it has to be?
-///
-/// # Errors
-///
-/// There is no memory for the bytes of a cargo.
-pub(crate) fn is_right(
-    alloc: Global,
-    network: &Network,
-    wanted: Wanted,
-    word: &[u8],
-) -> Result<bool, AllocError> {
-    match wanted {
-        Wanted::Channel => Ok(is_channel(network, word)),
-        Wanted::Node => Ok(is_node(network, word)),
-        Wanted::Flow => Ok(is_flow(network, word)),
-        Wanted::End => Ok(word == b"EOP".as_slice() || word == b"EEP".as_slice()),
-        Wanted::Cargo => is_cargo(alloc, word),
-        Wanted::Verb | Wanted::Nothing => Ok(false),
-    }
-}
-
-/// Is a word a count of a step?
-pub(crate) fn is_count(word: &[u8]) -> bool {
-    match number(word, MAX_COUNT) {
-        Some(count) => count != 0,
-        None => false,
-    }
-}
-
-/// What the words behind this one have to be, if a step begins with it.
-pub(crate) fn wanted_behind(verb: &[u8]) -> Option<&'static [Wanted]> {
-    match as_text(verb)? {
+// What the words behind the first of a step have to be.
+fn wanted_behind(verb: &str) -> Option<&'static [Wanted]> {
+    match verb {
         "fct" | "fctin" | "arrive" | "drop" | "forward" | "spill" => Some(&[Wanted::Channel]),
         "grant" => Some(&[Wanted::Channel, Wanted::Channel]),
         "begin" => Some(&[Wanted::Flow, Wanted::End, Wanted::Cargo]),
         "emit" | "accept" | "reply" => Some(&[Wanted::Node]),
         _ => None,
+    }
+}
+
+impl<'a> Teller<'a> {
+    // Is a word, behind the first one of a step, as it has to be?
+    fn is_right(self, wanted: Wanted, word: &[u8]) -> Result<bool, AllocError> {
+        let network = self.network;
+        Ok(match (wanted, first_name(word)) {
+            (Wanted::Channel, _) => {
+                number(word, MAX_NUMBER).is_some_and(|it| it < u32::from(network.channels()))
+            }
+            (Wanted::Node, Some(name)) => network.node_named(name).is_some(),
+            (Wanted::Flow, Some(name)) => network.declared_flow_named(name).is_some(),
+            (Wanted::End, Some(name)) => name == "EOP" || name == "EEP",
+            (Wanted::Cargo, _) => match word {
+                [high, low, b'*', times @ ..] => {
+                    hex_pair(*high, *low).is_some() && count_of(times).is_some()
+                }
+                word => pairs_of(self.alloc, word)?.is_some(),
+            },
+            _ => false,
+        })
+    }
+
+    /// What is wrong in a line; none where nothing is.
+    pub(crate) fn wrong_in<'l>(self, line: &'l [u8]) -> Result<Option<Wrong<'l>>, AllocError> {
+        let (word, behind) = first_word(line);
+        let rest = match number(word, MAX_COUNT) {
+            None | Some(0) => Some(line),
+            Some(_) => behind,
+        };
+        let (verb, mut behind) = first_word(rest.unwrap_or(&[]));
+        let Some(words) = str::from_utf8(verb).ok().and_then(wanted_behind) else {
+            let wanted = Wanted::Verb;
+            return Ok(Some(Wrong { rest, wanted }));
+        };
+        for wanted in words {
+            let rest = behind;
+            let (word, after) = first_word(rest.unwrap_or(&[]));
+            if rest.is_none() || !self.is_right(*wanted, word)? {
+                return Ok(Some(Wrong {
+                    rest,
+                    wanted: *wanted,
+                }));
+            }
+            behind = after;
+        }
+        let wanted = Wanted::Nothing;
+        Ok(
+            behind.is_some().then_some(Wrong {
+                rest: behind,
+                wanted,
+            }),
+        )
     }
 }

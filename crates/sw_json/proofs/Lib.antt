@@ -10,5 +10,4 @@ pub mod OneResult
 pub mod OneVerdict
 mod Memory
 mod OneMember
-mod FreeObject
 pub mod Added

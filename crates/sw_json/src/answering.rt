@@ -1,10 +1,10 @@
 //! What the engines share: faults of files as results, the answer round a result, and how it is told.
-ghost use Rattle.std.specs.Prelude.{◌≡◌, ◌∷◌, [], IfOk, IsOkAnd, map, option_map, string_bytes};
+ghost use Rattle.std.specs.Prelude.{◌≡◌, IfOk, IsOkAnd, map, option_map, string_bytes};
 ghost use Rattle.serde_json.specs.View.{view};
 ghost use Rattle.sw_json.specs.AnswerValues.{file_fault_value};
 ghost use Rattle.sw_json.specs.Plain.{IsPlain};
-ghost use Rattle.sw_text.specs.Inputs.{given};
-ghost use Rattle.sw_json.specs.Answering.{IsAnswer, IsAnswerTold, IsCommandOutcome, IsFaultyFile, IsLongFile, IsMemoryTold, IsUnreadNetwork, IsUnreadTold, read_value};
+ghost use Rattle.sw_json.specs.Answering.{IsAnswer, IsCommandOutcome, IsFaultyFile, IsLongFile, memory_text, read_value};
+ghost use Rattle.sw_text.specs.Ends.{IsTold};
 
 use crate::answers::{answer_value, file_fault_value};
 use crate::command_outcome::CommandOutcome;
@@ -18,7 +18,7 @@ use serde_json::Value;
 use std::alloc::{AllocError, Global};
 use std::io::Write;
 use sw_text::statuses::{FAULTY, NO_ROOM};
-use sw_text::{Answer, Ended, FileFault, InputError, InputText, TextFault, tell};
+use sw_text::{Answer, Ended, TextFault, tell};
 
 /// The result where the file of this path has the fault.
 ///
@@ -59,7 +59,7 @@ pub fn long_file(alloc: Global, path: &str) -> Result<CommandOutcome, AllocError
 /// # Errors
 ///
 /// There is no memory for it.
-pub(crate) fn faulty_file(
+pub fn faulty_file(
     alloc: Global,
     path: &str,
     text: &[u8],
@@ -70,35 +70,6 @@ pub(crate) fn faulty_file(
     faults_are_plain();
     let fault = fault_value(alloc, text, fault);
     file_fault(alloc, path, fault)
-}
-
-/// The result where a text was not read as a network, if it was not for want of memory.
-///
-/// # Errors
-///
-/// There is no memory for it, or there was none for the network.
-pub fn unread_network(
-    alloc: Global,
-    path: &str,
-    text: &[u8],
-    fault: FileFault,
-) -> Result<CommandOutcome, AllocError>
-    ensures { IfOk result (λ o. IsUnreadNetwork path.now text.now fault (view o.result) o.status) }
-{
-    match fault {
-        FileFault::Text(fault) => faulty_file(alloc, path, text, &fault),
-        FileFault::Memory => Err(AllocError),
-    }
-}
-
-// The bytes of a text that was read, if it is not too long.
-fn bytes_of(text: &InputText) -> Option<&[u8]>
-    ensures { option_map (λ s. s.now) result ≡ given text.now }
-{
-    match text {
-        InputText::Whole(text) => Some(text),
-        InputText::TooLong => None,
-    }
 }
 
 // A file that was read: its path, and its text, if that is not too long.
@@ -144,53 +115,13 @@ pub(crate) fn answer_to_files(
     Ok(Answer { text, status })
 }
 
-/// The answer of a command of two files, with what it found.
-///
-/// # Errors
-///
-/// There is no memory for it, or there was none for what was to be found.
-pub fn answer_to_two(
-    alloc: Global,
-    command: &str,
-    release: Release<'_>,
-    paths: (&str, &str),
-    first: &InputText,
-    second: &InputText,
-    found: Result<CommandOutcome, AllocError>,
-) -> Result<Answer, AllocError>
-    ensures { IfOk result (λ a. IsOkAnd found (λ o. IsAnswer command.now (read_value paths.entry.0.now (given first.now) ∷ read_value paths.entry.1.now (given second.now) ∷ []) release.entry (IsCommandOutcome (view o.result) o.status) (string_bytes a.text) a.status)) }
-{
-    let files = [(paths.0, bytes_of(first)), (paths.1, bytes_of(second))];
-    answer_to_files(alloc, command, release, &files, found)
-}
-
 /// Writes that memory was wanted. This takes no memory.
 pub fn tell_memory<W: Write>(writer: &mut W) -> Ended
-    ensures { IsMemoryTold (W.contents writer.old) (W.contents writer.new) result }
+    ensures { IsTold (W.contents writer.old) (W.contents writer.new) memory_text 5 result }
 {
     tell(
         writer,
         "{\"result\":{\"kind\":\"memory\"},\"status\":5}\n",
         NO_ROOM,
     )
-}
-
-/// Tells why a text was not read: of a read that failed nothing is written.
-pub fn tell_unread<W: Write>(writer: &mut W, error: InputError) -> Ended
-    ensures { IsUnreadTold error (W.contents writer.old) (W.contents writer.new) result }
-{
-    match error {
-        InputError::Failed => Ended::ReadFailed,
-        InputError::Memory => tell_memory(writer),
-    }
-}
-
-/// Writes an answer, or that memory was wanted.
-pub fn tell_answer<W: Write>(writer: &mut W, answer: Result<Answer, AllocError>) -> Ended
-    ensures { IsAnswerTold answer (W.contents writer.old) (W.contents writer.new) result }
-{
-    match answer {
-        Ok(answer) => tell(writer, answer.text.as_str(), answer.status),
-        Err(_) => tell_memory(writer),
-    }
 }

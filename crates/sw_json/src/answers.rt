@@ -4,7 +4,7 @@ ghost use Rattle.serde_json.specs.View.{view};
 ghost use Rattle.sw_json.specs.AnswerValues.{answer_value, file_fault_value};
 
 use crate::files::Release;
-use crate::objects::{Member, object_of_six, object_of_three};
+use crate::objects::{Member, object_of};
 use serde_json::Value;
 use std::alloc::{AllocError, Global};
 
@@ -16,12 +16,12 @@ use std::alloc::{AllocError, Global};
 pub fn file_fault_value(alloc: Global, path: &str, fault: Value) -> Result<Value, AllocError>
     ensures { IfOk result (λ v. view v ≡ file_fault_value path.now (view fault)) }
 {
-    object_of_three(
-        alloc,
+    let members = vec![in alloc;
         ("fault", Member::Value(fault)),
         ("kind", Member::Text("fault")),
         ("path", Member::Text(path)),
-    )
+    ]?;
+    object_of(alloc, members)
 }
 
 /// The answer of a command, by this release of the program: `files` are the objects of the files that it was given, in the order of its
@@ -42,13 +42,13 @@ pub fn answer_value<'a>(
 {
     let toolchain = release.toolchain;
     let version = release.version;
-    object_of_six(
-        alloc,
+    let members = vec![in alloc;
         ("command", Member::Text(command)),
         ("files", Member::Value(Value::Array(files))),
         ("result", Member::Value(found)),
         ("status", Member::Number(u64::from(status))),
         ("toolchain", Member::Text(toolchain)),
         ("version", Member::Text(version)),
-    )
+    ]?;
+    object_of(alloc, members)
 }

@@ -8,7 +8,7 @@ ghost use Rattle.sw_search.specs.Verdicts.{IsCyclic};
 ghost use Rattle.sw_json.specs.VerdictValues.{cause_value, channel_value, cyclic_value};
 
 use crate::lists::add_value;
-use crate::objects::{Member, object_of_text, object_of_two};
+use crate::objects::{Member, object_of};
 use crate::places::channel_object;
 use serde_json::Value;
 use std::alloc::{AllocError, Global};
@@ -23,11 +23,11 @@ fn cause_value(alloc: Global, network: &Network, cause: &Cause) -> Result<Value,
     match cause {
         Cause::Target(node) => {
             let name = node_name(network, *node);
-            object_of_text(alloc, "target", name)
+            object_of(alloc, vec![in alloc; ("target", Member::Text(name))]?)
         }
         Cause::Flow(flow, _) => {
             let name = flow_name(network, *flow);
-            object_of_text(alloc, "flow", name)
+            object_of(alloc, vec![in alloc; ("flow", Member::Text(name))]?)
         }
     }
 }
@@ -44,7 +44,7 @@ fn channel_values(
 {
     let mut values = Vec::new(alloc);
     for (channel, cause) in channels.iter().zip(causes) {
-        let by = cause_value(alloc, network, cause);
+        let by = Member::Value(cause_value(alloc, network, cause)?);
         let value = channel_object(alloc, network, *channel, "by", by);
         add_value(&mut values, value)?;
     }
@@ -63,9 +63,9 @@ pub(crate) fn cyclic_value(
     // Names the network, which is valid by its type: the channels of a shown cycle are its own.
     let _topology = network.topology();
     let channels = channel_values(alloc, network, &cycle.channels, &cycle.causes)?;
-    object_of_two(
-        alloc,
+    let members = vec![in alloc;
         ("channels", Member::Value(Value::Array(channels))),
         ("kind", Member::Text("cyclic")),
-    )
+    ]?;
+    object_of(alloc, members)
 }

@@ -11,7 +11,7 @@ ghost use Rattle.sw_json.specs.Simple.{count_or_null};
 ghost use Rattle.sw_json.specs.FaultValues.{IsFaultValue, fault_where, long_value, schedule_fault_value, topology_where, unknown_flow_value};
 
 use crate::codes::fault_code;
-use crate::objects::{Member, object_of_six};
+use crate::objects::{Member, object_of};
 use crate::simple::{count_or_null, text_or_null};
 use serde_json::Value;
 use std::alloc::{AllocError, Global};
@@ -68,15 +68,15 @@ fn told_fault<'a>(
 ) -> Result<Value, AllocError>
     ensures { IfOk result (λ v. view v ≡ object_of ((codes "code", string code.now) ∷ (codes "column", count_or_null column) ∷ (codes "kind", string (codes "fault")) ∷ (codes "line", count_or_null line) ∷ (codes "text", member_value text.entry) ∷ (codes "where", member_value place.entry) ∷ [])) }
 {
-    object_of_six(
-        alloc,
+    let members = vec![in alloc;
         ("code", Member::Text(code)),
         ("column", Member::Value(count_or_null(column))),
         ("kind", Member::Text("fault")),
         ("line", Member::Value(count_or_null(line))),
         ("text", text),
         ("where", place),
-    )
+    ]?;
+    object_of(alloc, members)
 }
 
 // The line and the column of a byte of the text, where one is told.

@@ -4,11 +4,8 @@ ghost use Rattle.serde_json.specs.View.{view};
 ghost use Rattle.sw_json.specs.FileValues.{audit_value, bare_entry, kind_value, read_entry};
 
 use crate::digests::digest_text;
-use crate::lists::{list_value, text_values};
-use crate::objects::{
-    Member, four_members, object_of_six, object_of_text, object_of_three, whole_object, with_value,
-};
-use crate::simple::text_value;
+use crate::lists::text_values;
+use crate::objects::{Member, object_of};
 use serde_json::Value;
 use std::alloc::{AllocError, Global};
 
@@ -29,7 +26,7 @@ pub struct Release<'a> {
 pub fn kind_value(alloc: Global, kind: &str) -> Result<Value, AllocError>
     ensures { IfOk result (λ v. view v ≡ kind_value kind.now) }
 {
-    object_of_text(alloc, "kind", kind)
+    object_of(alloc, vec![in alloc; ("kind", Member::Text(kind))]?)
 }
 
 /// What is found of a file whose text was read. `lint` is what there is to note of its network.
@@ -48,18 +45,17 @@ pub fn read_entry(
     ensures { IfOk result (λ v. view v ≡ read_entry path.now text.now (map string_bytes lint.now) status (view verdict)) }
 {
     let bytes = text.len();
-    let four = four_members(
-        alloc,
+    let digest = digest_text(alloc, text)?;
+    let lint = text_values(alloc, lint)?;
+    let members = vec![in alloc;
         ("bytes", Member::Number(bytes as u64)),
+        ("lint", Member::Value(Value::Array(lint))),
         ("path", Member::Text(path)),
+        ("sha256", Member::Value(Value::String(digest))),
         ("status", Member::Number(u64::from(status))),
         ("verdict", Member::Value(verdict)),
-    );
-    let lint = list_value(text_values(alloc, lint));
-    let five = with_value(alloc, four, "lint", lint);
-    let digest = text_value(digest_text(alloc, text));
-    let six = with_value(alloc, five, "sha256", digest);
-    whole_object(six)
+    ]?;
+    object_of(alloc, members)
 }
 
 /// What is found of a file whose text was not read, or not whole.
@@ -75,15 +71,15 @@ pub fn bare_entry(
 ) -> Result<Value, AllocError>
     ensures { IfOk result (λ v. view v ≡ bare_entry path.now status (view verdict)) }
 {
-    object_of_six(
-        alloc,
+    let members = vec![in alloc;
         ("bytes", Member::Value(Value::Null)),
         ("lint", Member::Value(Value::Array(Vec::new(alloc)))),
         ("path", Member::Text(path)),
         ("sha256", Member::Value(Value::Null)),
         ("status", Member::Number(u64::from(status))),
         ("verdict", Member::Value(verdict)),
-    )
+    ]?;
+    object_of(alloc, members)
 }
 
 /// What is found of files, by this release of the program.
@@ -100,10 +96,10 @@ pub fn audit_value(
 {
     let toolchain = release.toolchain;
     let version = release.version;
-    object_of_three(
-        alloc,
+    let members = vec![in alloc;
         ("files", Member::Value(Value::Array(files))),
         ("toolchain", Member::Text(toolchain)),
         ("version", Member::Text(version)),
-    )
+    ]?;
+    object_of(alloc, members)
 }

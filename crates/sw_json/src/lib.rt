@@ -8,7 +8,6 @@ mod command_outcome;
 mod cycles;
 mod digests;
 mod faults;
-mod file_answers;
 mod files;
 mod inputs;
 pub mod laws;
@@ -20,23 +19,17 @@ mod simple;
 mod texts;
 mod verdicts;
 
-pub use answering::{
-    answer_to_two, file_fault, long_file, tell_answer, tell_memory, tell_unread, unread_network,
-};
+pub use answering::{faulty_file, file_fault, long_file, tell_memory};
 pub use answers::{answer_value, file_fault_value};
 pub use codes::route_fault_code;
 pub use command_outcome::CommandOutcome;
 pub use digests::digest_text;
 pub use faults::{fault_value, long_value, schedule_fault_value, unknown_flow_value};
-pub use file_answers::{answer_to_faulty_file, answer_to_long_file, answer_to_network_file};
 pub use files::{Release, audit_value, bare_entry, kind_value, read_entry};
 pub use inputs::{input_value, long_input};
 pub use lists::{add_value, flow_name_values, text_values};
-pub use object_form::{AsValue, ObjectForm};
-pub use objects::{
-    Member, object_of, object_of_five, object_of_four, object_of_seven, object_of_six,
-    object_of_three, object_of_two,
-};
+pub use object_form::{AsValue, ObjectForm, SecondFile};
+pub use objects::{Member, object_of};
 pub use places::{finish_text, misrouted_fault_value, place_value, place_values, start_text};
 pub use serde_json::Value;
 pub use simple::{count_or_null, text_or_null};

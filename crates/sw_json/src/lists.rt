@@ -1,7 +1,7 @@
 //! Lists of values.
 ghost use Rattle.std.specs.Prelude.{◌≡◌, ◌++◌, ◌∷◌, [], IfOk, IsOkAnd, List, OnOk, map, string_bytes};
-ghost use Rattle.serde_json.specs.Data.{Data, array, string};
-ghost use Rattle.serde_json.specs.View.{items_of, view};
+ghost use Rattle.serde_json.specs.Data.{string};
+ghost use Rattle.serde_json.specs.View.{view};
 ghost use Rattle.sw_json.specs.PlaceValues.{flow_name_value};
 
 use serde_json::Value;
@@ -22,13 +22,6 @@ pub fn add_value(
 {
     values.push(value?)?;
     Ok(())
-}
-
-/// A list as a value, if there was memory for it.
-pub(crate) fn list_value(values: Result<Vec<Value>, AllocError>) -> Result<Value, AllocError>
-    ensures { (known : List Data) → IfOk values (λ v. map view v.items ≡ known) → IfOk result (λ v. view v ≡ array (items_of known)) }
-{
-    Ok(Value::Array(values?))
 }
 
 /// A value for each text.

@@ -1,13 +1,13 @@
 //! Answers as one object of JSON.
-ghost use Rattle.std.specs.Prelude.{◌≡◌, ℕ, List, ◌∷◌, [], IfOk, None, Some};
+ghost use Rattle.std.specs.Prelude.{◌≡◌, ℕ, List, IfOk, IsOkAnd, None, Option, Some, option_map};
 ghost use Rattle.serde_json.specs.Data.{Data};
 ghost use Rattle.serde_json.specs.View.{view};
 ghost use Rattle.sw_config.specs.Entries.{Declaration};
-ghost use Rattle.sw_json.specs.Answering.{IsAnswer, IsCommandOutcome, IsFaultyFile, IsLongFile, memory_text, read_value};
+ghost use Rattle.sw_json.specs.Answering.{IsAnswer, IsCommandOutcome, IsFaultyFile, IsLongFile, Results, memory_text};
+ghost use Rattle.sw_json.specs.ObjectAnswers.{file_values, second_path};
 
-use crate::answering::tell_memory;
+use crate::answering::{answer_to_files, faulty_file, long_file, tell_memory};
 use crate::command_outcome::CommandOutcome;
-use crate::file_answers::{answer_to_faulty_file, answer_to_long_file, answer_to_network_file};
 use crate::files::Release;
 use std::alloc::{AllocError, Global};
 use std::io::Write;
@@ -15,11 +15,20 @@ use sw_config::Network;
 use sw_engine::{Finding, Form};
 use sw_text::{ByteAnswer, Ended, TextFault};
 
-/// What a command finds of a network, where it can be told as a value of JSON.
+/// The second file of a command.
+#[derive(Clone, Copy)]
+pub struct SecondFile<'a> {
+    /// Its path, as it was given; empty of a command of one file.
+    pub path: &'a str,
+    /// Its bytes, if they are not too many.
+    pub text: Option<&'a [u8]>,
+}
+
+/// What a command finds of a network, alone or with a second file, where it can be told as a value of JSON.
 pub trait AsValue: Finding {
     ghost command: { List ℕ };
 
-    ghost value_of: { Declaration → Self → Data };
+    ghost results_of: { List ℕ → Option (List ℕ) → Declaration → Self → Results };
 
     /// The name of the command.
     fn command() -> &'static str
@@ -30,54 +39,149 @@ pub trait AsValue: Finding {
     /// # Errors
     ///
     /// There is no memory for it.
-    fn outcome(&self, alloc: Global, network: &Network) -> Result<CommandOutcome, AllocError>
+    fn outcome(
+        &self,
+        alloc: Global,
+        second: SecondFile<'_>,
+        network: &Network,
+    ) -> Result<CommandOutcome, AllocError>
         requires { Self.Finding.is_of network.now self.now }
-        ensures { IfOk result (λ o. IsCommandOutcome (value_of network.now self.now) (Self.Finding.status_of self.now) (view o.result) o.status) };
+        ensures { IfOk result (λ o. results_of second.entry.path.now (option_map (λ s. s.now) second.entry.text) network.now self.now (view o.result) o.status) };
+
+    ghost result_has_status: { (path : List ℕ) (second : Option (List ℕ)) (d : Declaration) (found : Self) (value : Data) (status : ℕ) → results_of path second d found value status → status ≡ Self.Finding.status_of found };
 }
 
-/// The form of answers that are one object of JSON.
+/// The form of answers that are one object of JSON, which tells of the files of a command by their paths.
 #[derive(Clone, Copy)]
 pub struct ObjectForm<'a> {
-    /// The file's path, as it was given. It is not opened.
+    /// The network file's path, as it was given. It is not opened.
     pub path: &'a str,
+    /// The second file's path, of a command of two.
+    pub second: Option<&'a str>,
     /// Which release of the program answers.
     pub release: Release<'a>,
 }
 
+impl ObjectForm<'_> {
+    /// The second file, of these bytes.
+    pub fn second_file<'b>(&'b self, text: Option<&'b [u8]>) -> SecondFile<'b>
+        ensures path { result.path.now ≡ second_path self.entry.now.second }
+        ensures text { result.text ≡ text.entry }
+    {
+        let path = match self.second {
+            Some(path) => path,
+            None => "",
+        };
+        SecondFile { path, text }
+    }
+
+    /// The answer of the command with what it found, by the bytes of the files.
+    ///
+    /// # Errors
+    ///
+    /// There is no memory for it, or there was none for what was to be found.
+    pub fn answer(
+        &self,
+        alloc: Global,
+        command: &str,
+        text: Option<&[u8]>,
+        second: Option<&[u8]>,
+        found: Result<CommandOutcome, AllocError>,
+    ) -> Result<ByteAnswer, AllocError>
+        ensures { IfOk result (λ a. IsOkAnd found (λ o. IsAnswer command.now (file_values self.now.path.now self.now.second (option_map (λ s. s.now) text.entry) (option_map (λ s. s.now) second.entry)) self.now.release (IsCommandOutcome (view o.result) o.status) a.text.items a.status)) }
+    {
+        let first = (self.path, text);
+        let answer = match self.second {
+            None => answer_to_files(alloc, command, self.release, &[first], found)?,
+            Some(path) => {
+                let files = [first, (path, second)];
+                answer_to_files(alloc, command, self.release, &files, found)?
+            }
+        };
+        Ok(answer.into_bytes())
+    }
+
+    /// The answer where the text of the network file is too long.
+    ///
+    /// # Errors
+    ///
+    /// There is no memory for it.
+    pub fn long_answer(
+        &self,
+        alloc: Global,
+        command: &str,
+        second: Option<&[u8]>,
+    ) -> Result<ByteAnswer, AllocError>
+        ensures { IfOk result (λ a. IsAnswer command.now (file_values self.now.path.now self.now.second None (option_map (λ s. s.now) second.entry)) self.now.release (IsLongFile self.now.path.now) a.text.items a.status) }
+    {
+        let found = long_file(alloc, self.path);
+        self.answer(alloc, command, None, second, found)
+    }
+
+    /// The answer where the text of the network file has this fault.
+    ///
+    /// # Errors
+    ///
+    /// There is no memory for it.
+    pub fn fault_answer(
+        &self,
+        alloc: Global,
+        command: &str,
+        second: Option<&[u8]>,
+        text: &[u8],
+        fault: &TextFault,
+    ) -> Result<ByteAnswer, AllocError>
+        ensures { IfOk result (λ a. IsAnswer command.now (file_values self.now.path.now self.now.second (Some text.now) (option_map (λ s. s.now) second.entry)) self.now.release (IsFaultyFile self.now.path.now text.now fault.now) a.text.items a.status) }
+    {
+        let found = faulty_file(alloc, self.path, text, fault);
+        self.answer(alloc, command, Some(text), second, found)
+    }
+}
+
 impl<X: AsValue> Form<X> for ObjectForm<'_> {
+    ghost use Rattle.sw_json.specs.ObjectAnswers.{fault_has_status, long_has_status, result_has_status};
+
     ghost memory = { memory_text };
 
-    ghost long = { λ s. IsAnswer X.command (read_value s.path.now None ∷ []) s.release (IsLongFile s.path.now) };
+    ghost long = { λ s second. IsAnswer X.command (file_values s.path.now s.second None second) s.release (IsLongFile s.path.now) };
 
-    ghost faulty = { λ s text fault. IsAnswer X.command (read_value s.path.now (Some text) ∷ []) s.release (IsFaultyFile s.path.now text fault) };
+    ghost faulty = { λ s second text fault. IsAnswer X.command (file_values s.path.now s.second (Some text) second) s.release (IsFaultyFile s.path.now text fault) };
 
-    ghost tells = { λ s text d found. IsAnswer X.command (read_value s.path.now (Some text) ∷ []) s.release (IsCommandOutcome (X.value_of d found) (X.Finding.status_of found)) };
+    ghost tells = { λ s second text d found. IsAnswer X.command (file_values s.path.now s.second (Some text) second) s.release (X.results_of (second_path s.second) second d found) };
+
+    ghost long_has_status = { λ s second. long_has_status X.command (file_values s.path.now s.second None second) s.release s.path.now };
+
+    ghost fault_has_status = { λ s second text fault. fault_has_status X.command (file_values s.path.now s.second (Some text) second) s.release s.path.now text fault };
+
+    ghost finding_has_status = { λ s second text d found. result_has_status X.command (file_values s.path.now s.second (Some text) second) s.release (X.results_of (second_path s.second) second d found) (X.Finding.status_of found) (X.result_has_status (second_path s.second) second d found) };
 
     fn tell_memory<W: Write>(&self, writer: &mut W) -> Ended {
         tell_memory(writer)
     }
 
-    fn long(&self, alloc: Global) -> Result<ByteAnswer, AllocError> {
-        answer_to_long_file(alloc, X::command(), self.release, self.path)
+    fn long(&self, alloc: Global, second: Option<&[u8]>) -> Result<ByteAnswer, AllocError> {
+        self.long_answer(alloc, X::command(), second)
     }
 
     fn faulty(
         &self,
         alloc: Global,
+        second: Option<&[u8]>,
         text: &[u8],
         fault: &TextFault,
     ) -> Result<ByteAnswer, AllocError> {
-        answer_to_faulty_file(alloc, X::command(), self.release, self.path, text, fault)
+        self.fault_answer(alloc, X::command(), second, text, fault)
     }
 
     fn found(
         &self,
         alloc: Global,
+        second: Option<&[u8]>,
         text: &[u8],
         network: &Network,
         found: &X,
     ) -> Result<ByteAnswer, AllocError> {
-        let found = found.outcome(alloc, network);
-        answer_to_network_file(alloc, X::command(), self.release, self.path, text, found)
+        let found = found.outcome(alloc, self.second_file(second), network);
+        self.answer(alloc, X::command(), Some(text), second, found)
     }
 }

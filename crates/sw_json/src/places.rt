@@ -1,18 +1,17 @@
 //! Channels and places of flows as values.
 ghost use Rattle.std.specs.Prelude.{◌≡◌, ◌<◌, ◌∷◌, [], All, IfOk, codes, length, map, string_bytes};
-ghost use Rattle.serde_json.specs.Data.{Data, string};
+ghost use Rattle.serde_json.specs.Data.{string};
 ghost use Rattle.serde_json.specs.View.{view};
 ghost use Rattle.sw_config.specs.Entries.{wiring_of};
 ghost use Rattle.sw_output.specs.ChannelTexts.{start_text};
-ghost use Rattle.sw_json.specs.Objects.{object_of};
+ghost use Rattle.sw_json.specs.Objects.{member_value, object_of};
 ghost use Rattle.sw_json.specs.PlaceValues.{finish_text, misrouted_fault_value, place_value};
 ghost use Rattle.sw_json.specs.Simple.{count_value};
 
 use crate::codes::route_fault_code;
 use crate::lists::add_value;
-use crate::objects::{Member, made_value, object_of_four, whole_object, with_member, with_value};
-use crate::simple::text_value;
-use serde_json::{Map, Value};
+use crate::objects::{Member, object_of};
+use serde_json::Value;
 use std::alloc::{AllocError, Global};
 use sw_config::Network;
 use sw_flow::{Place, RouteFault};
@@ -49,19 +48,21 @@ pub(crate) fn channel_object(
     network: &Network,
     channel: Chan,
     name: &str,
-    more: Result<Value, AllocError>,
+    more: Member<'_>,
 ) -> Result<Value, AllocError>
     requires { channel < length (wiring_of network.now).ends }
-    ensures { (made : Data) → IfOk more (λ v. view v ≡ made) → IfOk result (λ v. view v ≡ object_of ((name.now, made) ∷ (codes "channel", count_value channel) ∷ (codes "end", string (finish_text network.now channel)) ∷ (codes "start", string (start_text network.now channel)) ∷ [])) }
+    ensures { IfOk result (λ v. view v ≡ object_of ((name.now, member_value more.entry) ∷ (codes "channel", count_value channel) ∷ (codes "end", string (finish_text network.now channel)) ∷ (codes "start", string (start_text network.now channel)) ∷ [])) }
 {
     let number = channel.number();
-    let one = with_value(alloc, Ok(Map::new(alloc)), name, more);
-    let two = with_member(alloc, one, ("channel", Member::Number(u64::from(number))));
-    let end = text_value(finish_text(alloc, network, channel));
-    let three = with_value(alloc, two, "end", end);
-    let start = text_value(start_text(alloc, network, channel));
-    let four = with_value(alloc, three, "start", start);
-    whole_object(four)
+    let start = start_text(alloc, network, channel)?;
+    let end = finish_text(alloc, network, channel)?;
+    let members = vec![in alloc;
+        (name, more),
+        ("channel", Member::Number(u64::from(number))),
+        ("end", Member::Value(Value::String(end))),
+        ("start", Member::Value(Value::String(start))),
+    ]?;
+    object_of(alloc, members)
 }
 
 /// The object that stands for a place of a flow.
@@ -74,8 +75,7 @@ pub fn place_value(alloc: Global, network: &Network, place: Place) -> Result<Val
     ensures { IfOk result (λ v. view v ≡ place_value network.now place) }
 {
     let deleted = Member::Number(u64::from(place.deleted));
-    let made = made_value(alloc, deleted);
-    channel_object(alloc, network, place.channel, "deleted", made)
+    channel_object(alloc, network, place.channel, "deleted", deleted)
 }
 
 /// An object for each of the places.
@@ -115,11 +115,11 @@ pub fn misrouted_fault_value(
     let code = route_fault_code(fault);
     let fault = route_fault_text(fault);
     let text = format!(in alloc; "misrouted {channel} {deleted} {fault}")?;
-    object_of_four(
-        alloc,
+    let members = vec![in alloc;
         ("channel", Member::Number(u64::from(channel))),
         ("code", Member::Text(code)),
         ("deleted", Member::Number(u64::from(deleted))),
         ("text", Member::Value(Value::String(text))),
-    )
+    ]?;
+    object_of(alloc, members)
 }

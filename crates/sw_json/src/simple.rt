@@ -1,11 +1,9 @@
 //! Simple values.
-ghost use Rattle.std.specs.Prelude.{◌≡◌, ℕ, IfOk, List, option_map, string_bytes};
-ghost use Rattle.serde_json.specs.Data.{string};
+ghost use Rattle.std.specs.Prelude.{◌≡◌, option_map, string_bytes};
 ghost use Rattle.serde_json.specs.View.{view};
 ghost use Rattle.sw_json.specs.Simple.{count_or_null, text_or_null};
 
 use serde_json::Value;
-use std::alloc::AllocError;
 
 /// A number, or null where there is none.
 pub fn count_or_null(count: Option<u64>) -> Value
@@ -25,11 +23,4 @@ pub fn text_or_null(text: Option<String>) -> Value
         Some(text) => Value::String(text),
         None => Value::Null,
     }
-}
-
-/// A text as a value, if there was memory for it.
-pub(crate) fn text_value(text: Result<String, AllocError>) -> Result<Value, AllocError>
-    ensures { (words : List ℕ) → IfOk text (λ s. string_bytes s ≡ words) → IfOk result (λ v. view v ≡ string words) }
-{
-    Ok(Value::String(text?))
 }

@@ -8,8 +8,7 @@ ghost use Rattle.sw_json.specs.VerdictValues.{certificate_bytes, free_value, mis
 use crate::codes::route_fault_code;
 use crate::cycles::cyclic_value;
 use crate::digests::digest_text;
-use crate::objects::{Member, four_members, object_of_six, whole_object, with_member, with_value};
-use crate::simple::text_value;
+use crate::objects::{Member, object_of};
 use serde_json::Value;
 use std::alloc::{AllocError, Global};
 use sw_cert::Certificate;
@@ -34,24 +33,19 @@ fn free_value(
     let links = network.links();
     let nodes = network.nodes();
     let switches = network.switches();
-    let four = four_members(
-        alloc,
+    let digest = digest_text(alloc, text)?;
+    let members = vec![in alloc;
+        ("certificate_sha256", Member::Value(Value::String(digest))),
         ("channels", Member::Number(u64::from(channels))),
         ("flows", Member::Number(u64::from(declared))),
         ("height", Member::Number(u64::from(height))),
         ("kind", Member::Text("free")),
-    );
-    let five = with_member(alloc, four, ("links", Member::Number(u64::from(links))));
-    let six = with_member(alloc, five, ("nodes", Member::Number(u64::from(nodes))));
-    let seven = with_member(alloc, six, ("replies", Member::Number(u64::from(replies))));
-    let eight = with_member(
-        alloc,
-        seven,
+        ("links", Member::Number(u64::from(links))),
+        ("nodes", Member::Number(u64::from(nodes))),
+        ("replies", Member::Number(u64::from(replies))),
         ("switches", Member::Number(u64::from(switches))),
-    );
-    let digest = text_value(digest_text(alloc, text));
-    let nine = with_value(alloc, eight, "certificate_sha256", digest);
-    whole_object(nine)
+    ]?;
+    object_of(alloc, members)
 }
 
 fn misrouted_value(
@@ -68,15 +62,15 @@ fn misrouted_value(
     let code = route_fault_code(fault);
     let name = flow_name(network, flow);
     let text = misrouted_words(alloc, network, flow, place, fault)?;
-    object_of_six(
-        alloc,
+    let members = vec![in alloc;
         ("channel", Member::Number(u64::from(channel))),
         ("code", Member::Text(code)),
         ("deleted", Member::Number(u64::from(deleted))),
         ("flow", Member::Text(name)),
         ("kind", Member::Text("misrouted")),
         ("text", Member::Value(Value::String(text))),
-    )
+    ]?;
+    object_of(alloc, members)
 }
 
 /// The object that stands for a verdict on the network. `text` is the text of its certificate, empty where the verdict has none.

@@ -3,7 +3,7 @@ mod CheckFound
 mod ReportFound
 mod OneAnswer
 mod StatusesOfTexts
-mod Accepted
+mod JudgedFiles
 pub mod Dashes
 pub mod Chosen
 pub mod Pairs

@@ -6,7 +6,7 @@ use Rattle.serde_json.specs.Data.{Data}
 use Rattle.std.proofs.lemmas.Bool.{cases_lt, false≢true}
 use Rattle.std.proofs.lemmas.List.{get_or_default, length-append}
 use Rattle.std.proofs.lemmas.List.Elements.{recursion_from_All}
-use Rattle.sw_app.specs.CheckAnswers.{IsShownDeadlockFree}
+use Rattle.sw_app.specs.ShownDeadlockFree.{IsShownDeadlockFree}
 use Rattle.sw_app.proofs.ShownFree.{has_text, shown_free}
 use Rattle.sw_json_verdicts.specs.AuditTexts.{worst}
 use Rattle.sw_json_verdicts.specs.Findings.{Finding, IsBareFinding, IsFinding, IsGivenFinding, IsStatus, IsTextFinding, IsVerdictEntry, kept_status, verdict_word}

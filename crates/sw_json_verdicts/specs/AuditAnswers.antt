@@ -7,12 +7,13 @@ use Rattle.sw_json_verdicts.specs.Stores.{Giving, Keeping}
 use Rattle.sw_json_verdicts.specs.declared.audit_options.AuditOptions.{AuditOptions}
 use Rattle.std.specs.declared.alloc.AllocError.{AllocError}
 use Rattle.sw_text.specs.Ends.{Answers, IsTold}
-use Rattle.sw_text.specs.Ends as lines
+use Rattle.sw_engine.specs.LineAnswers.{memory_line}
+use Rattle.sw_engine.specs.Tellings.{TellsOr}
 use Rattle.sw_text.specs.declared.answer.Answer.{Answer}
 use Rattle.sw_text.specs.declared.write_answer.Ended.{Ended}
 use Rattle.sw_json.specs.FileValues.{audit_value}
 use Rattle.sw_json.specs.Texts.{ReadsBack}
-use Rattle.sw_json.specs.Answering as objects
+use Rattle.sw_json.specs.Answering.{memory_text}
 
 -- for each path one finding, in their order; files are numbered from 1
 pub record AreFindings (options : AuditOptions) (gives : Giving) (keeps : Keeping) (paths : List (List ℕ)) (findings : List Finding) : Type 0 where
@@ -41,17 +42,16 @@ IsAuditAnswer options gives keeps paths text status =
     (findings : List Finding) × AreFindings options gives keeps paths findings
     × IsText options (zip paths findings) text × (status ≡ worst findings)
 
--- one of the answers was told, or that memory was wanted, as a line or as an object
-abbrev pub TellsAudit : Bool → Option (List ℕ) → Option (List ℕ) → Answers → Ended → Type 0
-TellsAudit false = lines.Tells
-TellsAudit true = objects.Tells
+-- how it is told that memory was wanted: in a line, or as an object
+abbrev pub memory_told : Bool → List ℕ
+memory_told false = memory_line
+memory_told true = memory_text
 
--- that memory was wanted was told
-abbrev pub IsWantTold : Bool → Option (List ℕ) → Option (List ℕ) → Ended → Type 0
-IsWantTold false = lines.IsMemoryTold
-IsWantTold true = objects.IsMemoryTold
+-- one of the answers was told, or that memory was wanted
+abbrev pub TellsAudit : Bool → Option (List ℕ) → Option (List ℕ) → Answers → Ended → Type 0
+TellsAudit json old new P ended = TellsOr (memory_told json) P old new ended
 
 -- the answer was told, or that memory was wanted
 abbrev pub IsAuditTold : Bool → Result Answer AllocError → Option (List ℕ) → Option (List ℕ) → Ended → Type 0
 IsAuditTold json (Ok answer) old new ended = IsTold old new (string_bytes answer.text) answer.status ended
-IsAuditTold json (Err none) old new ended = IsWantTold json old new ended
+IsAuditTold json (Err none) old new ended = IsTold old new (memory_told json) 5 ended

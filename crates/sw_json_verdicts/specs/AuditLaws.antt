@@ -1,6 +1,6 @@
 -- What it says that a network is told as free, and what status 0 of an audit says.
 use Rattle.std.specs.Prelude.{◌≡◌, ℕ, ◌+◌, true, List, Ok, Some, codes, slice_get}
-use Rattle.sw_app.specs.CheckAnswers.{IsShownDeadlockFree}
+use Rattle.sw_app.specs.ShownDeadlockFree.{IsShownDeadlockFree}
 use Rattle.sw_json_verdicts.specs.AuditAnswers.{AreFindings}
 use Rattle.sw_json_verdicts.specs.AuditTexts.{worst}
 use Rattle.sw_json_verdicts.specs.Findings.{Finding, IsFinding, IsStatus, IsVerdictEntry}

@@ -1,12 +1,12 @@
 -- What `check` answers with an object of JSON (this project's choice).
-use Rattle.std.specs.Prelude.{ℕ, List, codes, Option, Some, None, Result, Ok, Err}
+use Rattle.std.specs.Prelude.{◌≡◌, ℕ, List, codes, Option, Some, None}
 use Rattle.serde_json.specs.Data.{Data, object, string, member, no_members}
+use Rattle.sw_app.specs.CheckAnswers.{IsCheckFinding, check_status}
 use Rattle.sw_app.specs.CheckTexts.{grammar_words, refusal_words}
-use Rattle.sw_cert.specs.Reading.{State}
-use Rattle.sw_cert.specs.Text.{contents_of, read_text}
+use Rattle.sw_app.specs.declared.check_finding.CheckFinding.{CheckFinding}
+use Rattle.sw_app.specs.declared.check_finding.CheckFinding.TheVariants.{TooLong, WrongLine, Refused, Accepted}
 use Rattle.sw_cert.specs.declared.refusal.Refusal.{Refusal}
 use Rattle.sw_cert.specs.declared.refusal.Refusal.TheVariants.{WrongCount, NoStart, Faulty, NotClosed, NotRising}
-use Rattle.sw_cert.specs.Refusals.{refusal_of}
 use Rattle.sw_text.specs.Ends.{AnswersToTwo}
 use Rattle.sw_config.specs.Entries.{Declaration}
 use Rattle.sw_flow.specs.declared.place.Place.{Place}
@@ -15,7 +15,8 @@ use Rattle.sw_json.specs.PlaceValues.{route_fault_code}
 use Rattle.sw_json.specs.Simple.{count_or_null, text_or_null}
 use Rattle.sw_json.specs.declared.files.Release.{Release}
 use Rattle.sw_output.specs.FlowTexts.{flow_name}
-use Rattle.sw_json.specs.Answering.{IsAnswerToTwo, IsCommandOutcome, OfFile, OfNetworkFile, Results}
+use Rattle.sw_json.specs.Answering.{IsCommandOutcome, IsLongFile, Results}
+use Rattle.sw_json.specs.ObjectAnswers.{TwoFilesAsObject}
 
 -- A reason to refuse a certificate, in its parts: its code, the wrong line, the flow, a channel of it and how many address bytes are
 -- deleted there, the channel that depends on that one, and the code of the place's fault. A part that a reason lacks is None.
@@ -65,21 +66,21 @@ refused_value r text =
     (member (codes "next") (count_or_null r.next)
     (member (codes "text") (string text) no_members)))))))))
 
--- by the first reason to refuse a certificate for the network, if there is one
-abbrev pub IsJudgement : Declaration → Option Refusal → Results
-IsJudgement d None value status = IsCommandOutcome (kind_value (codes "accepted")) 0 value status
-IsJudgement d (Some refusal) value status = IsCommandOutcome (refused_value (reason_of d refusal) (refusal_words d refusal)) 1 value status
+-- what is told of a finding, and of a second file of that path
+abbrev pub check_results : List ℕ → Declaration → CheckFinding → Results
+check_results other d TooLong = IsLongFile other
+check_results other d (WrongLine number) = IsCommandOutcome (refused_value (grammar_reason number) (grammar_words number)) 1
+check_results other d (Refused contents refusal) = IsCommandOutcome (refused_value (reason_of d refusal) (refusal_words d refusal)) 1
+check_results other d Accepted = IsCommandOutcome (kind_value (codes "accepted")) 0
 
--- of what a certificate's text says, or of its first wrong line
-abbrev pub IsCertificateResult : Declaration → Result State ℕ → Results
-IsCertificateResult d (Ok said) value status = IsJudgement d (refusal_of d (contents_of said)) value status
-IsCertificateResult d (Err number) value status = IsCommandOutcome (refused_value (grammar_reason number) (grammar_words number)) 1 value status
+-- with the finding's status
+pub check_has_status : (other : List ℕ) (d : Declaration) (found : CheckFinding) (value : Data) (status : ℕ) → check_results other d found value status
+    → status ≡ check_status found
+check_has_status other d TooLong value status is = is.1
+check_has_status other d (WrongLine number) value status is = is.1
+check_has_status other d (Refused contents refusal) value status is = is.1
+check_has_status other d Accepted value status is = is.1
 
--- of a network file and a certificate file: all that is wrong with the first comes before what is with the second
-abbrev pub IsCheckResult : List ℕ → List ℕ → Option (List ℕ) → Option (List ℕ) → Results
-IsCheckResult path other first second =
-    OfNetworkFile path (λ d. OfFile other (λ text. IsCertificateResult d (read_text text)) second) first
-
--- of the network file and the certificate file of those paths
+-- of the network file and the certificate file of those paths: all that is wrong with the first comes before what is with the second
 abbrev pub IsCheckJson : List ℕ → List ℕ → Release → AnswersToTwo
-IsCheckJson path other release = IsAnswerToTwo (codes "check") path other release (IsCheckResult path other)
+IsCheckJson = TwoFilesAsObject (codes "check") IsCheckFinding (λ other second d found. check_results other d found)

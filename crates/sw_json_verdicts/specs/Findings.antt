@@ -1,11 +1,14 @@
 -- What is found of a file (this project's choice): its status, its verdict in a word, and the object that stands for both, where objects
 -- are told.
-use Rattle.std.specs.Prelude.{◌≡◌, ◌⊎◌, ℕ, Bool, false, true, List, [], codes, Result, Ok, Err}
+use Rattle.std.specs.Prelude.{◌≡◌, ◌⊎◌, ℕ, Bool, false, true, List, [], codes, Result, Ok, Err, Some}
 use Rattle.serde_json.specs.Data.{Data}
 use Rattle.sw_json_verdicts.specs.Names.{certificate_name}
 use Rattle.sw_json_verdicts.specs.Stores.{Given, whole, too_long, unread, no_memory, Giving, Keeping}
 use Rattle.sw_json_verdicts.specs.declared.audit_options.AuditOptions.{AuditOptions}
 use Rattle.sw_config.specs.Entries.{Declaration}
+use Rattle.sw_engine.specs.Files.{IsFileOf}
+use Rattle.sw_engine.specs.declared.network_file.NetworkFile.{NetworkFile}
+use Rattle.sw_engine.specs.declared.network_file.NetworkFile.TheVariants as file
 use Rattle.sw_file.specs.Network.{network_text}
 use Rattle.sw_json.specs.FaultValues.{IsFaultValue, long_value}
 use Rattle.sw_json.specs.FileValues.{bare_entry, kind_value, read_entry}
@@ -84,6 +87,28 @@ IsGivenFinding options keeps number path (whole text) = IsTextFinding options ke
 IsGivenFinding options keeps number path too_long = IsBareFinding options path 3 (codes "fault") long_value
 IsGivenFinding options keeps number path unread = IsBareFinding options path 6 (codes "unread") (kind_value (codes "unread"))
 IsGivenFinding options keeps number path no_memory = IsMemoryFinding options path
+
+-- of a file as far as it could be read; of want of memory nothing
+abbrev pub IsFileFinding : AuditOptions → Keeping → ℕ → List ℕ → NetworkFile → Finding → Type 0
+IsFileFinding options keeps number path (file.Network text network) = IsVerdictFinding options keeps number path text.items network
+IsFileFinding options keeps number path (file.Faulty text fault) = IsFaultFinding options path text.items fault
+IsFileFinding options keeps number path file.TooLong = IsBareFinding options path 3 (codes "fault") long_value
+IsFileFinding options keeps number path file.Unread = IsBareFinding options path 6 (codes "unread") (kind_value (codes "unread"))
+IsFileFinding options keeps number path file.NoMemory = λ f. ⊥
+
+-- the same, or that memory was wanted for it
+abbrev pub IsFoundOfFile : AuditOptions → Keeping → ℕ → List ℕ → NetworkFile → Finding → Type 0
+IsFoundOfFile options keeps number path known f = IsFileFinding options keeps number path known f ⊎ IsMemoryFinding options path f
+
+-- what the path gave is as a network file, unless memory was wanted
+abbrev pub IsFileOfGiven : Given → NetworkFile → Type 0
+IsFileOfGiven (whole text) known = IsFileOf (Some text) known
+IsFileOfGiven too_long known = known ≡ file.TooLong
+IsFileOfGiven unread known = known ≡ file.Unread
+IsFileOfGiven no_memory known = known ≡ file.NoMemory
+
+abbrev pub IsFileGiven : (Given → Type 0) → NetworkFile → Type 0
+IsFileGiven gives known = (given : Given) × gives given × IsFileOfGiven given known
 
 -- of the file of that number and path, or that memory was wanted for it
 abbrev pub IsFinding : AuditOptions → Giving → Keeping → ℕ → List ℕ → Finding → Type 0

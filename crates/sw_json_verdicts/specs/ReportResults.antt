@@ -3,7 +3,7 @@ use Rattle.std.specs.Prelude.{ℕ, ◌-◌, List, codes, length}
 use Rattle.serde_json.specs.Data.{Data, object, string, member, no_members}
 use Rattle.sw_app.specs.VerdictAnswers.{IsReportFinding}
 use Rattle.sw_config.specs.Entries.{Declaration, all_flows, wiring_of}
-use Rattle.sw_json.specs.Answering.{AnswersToOne}
+use Rattle.sw_engine.specs.Engines.{AnswersToOne}
 use Rattle.sw_json.specs.ObjectAnswers.{NetworkFileAsObject}
 use Rattle.sw_json.specs.Simple.{count_value}
 use Rattle.sw_json.specs.VerdictValues.{verdict_value}

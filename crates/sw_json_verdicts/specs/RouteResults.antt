@@ -9,7 +9,7 @@ use Rattle.sw_config.specs.Entries.{Declaration}
 use Rattle.sw_flow.specs.declared.fault.RouteFault.{RouteFault}
 use Rattle.sw_flow.specs.declared.place.Place.{Place}
 use Rattle.sw_json.specs.AnswerValues.{file_fault_value}
-use Rattle.sw_json.specs.Answering.{AnswersToOne}
+use Rattle.sw_engine.specs.Engines.{AnswersToOne}
 use Rattle.sw_json.specs.FaultValues.{unknown_flow_value}
 use Rattle.sw_json.specs.ObjectAnswers.{NetworkFileAsObject}
 use Rattle.sw_json.specs.PlaceValues.{misrouted_fault_value, place_value}

@@ -2,12 +2,14 @@
 ghost use Rattle.std.specs.Prelude.{◌≡◌, ◌∷◌, [], IfOk, map, max, string_bytes, unwrap_or};
 ghost use Rattle.std.specs.List.{reduce};
 ghost use Rattle.sw_json_verdicts.specs.AuditAnswers.{IsAuditAnswer};
-ghost use Rattle.sw_json_verdicts.specs.Judgements.{AreJudged};
+ghost use Rattle.sw_json_verdicts.specs.Findings.{IsFinding};
+ghost use Rattle.sw_json_verdicts.specs.Judgements.{AreJudged, finding_of};
 
 use crate::audit_options::AuditOptions;
 use crate::audit_texts::audit_text;
-use crate::judged::Judged;
-use crate::parallel::{all_judged, one_judged};
+use crate::findings::judge;
+use crate::judged::{Judged, NumberedFile};
+use crate::parallel::all_judged;
 use crate::stores::Storage;
 use std::alloc::{AllocError, Global};
 use std::thread::Threads;
@@ -17,6 +19,15 @@ use sw_json::laws::{
 use sw_search::VerdictWorkers;
 use sw_text::Answer;
 use sw_text::statuses::GOOD;
+
+// One file's judgement as a list.
+fn list_of(alloc: Global, judged: Judged) -> Result<Vec<Judged>, AllocError>
+    ensures { IfOk result (λ v. v.items ≡ judged ∷ []) }
+{
+    let mut all = Vec::new(alloc);
+    all.push(judged)?;
+    Ok(all)
+}
 
 // The worst status is the greatest.
 fn worst(all: &[Judged]) -> u8
@@ -50,21 +61,22 @@ fn judged_answer<S: Storage>(
     Ok(Answer { text, status })
 }
 
-/// The answer to one file, which is judged by the workers.
+/// The answer to one file, of which this was found.
 ///
 /// # Errors
 ///
 /// There is no memory for the answer.
-pub(crate) fn answer_to_one<C: VerdictWorkers, S: Storage>(
-    workers: &C,
+pub(crate) fn answer_to_one<S: Storage>(
     alloc: Global,
     storage: &S,
     path: &str,
     options: &AuditOptions<'_>,
+    judged: Judged,
 ) -> Result<Answer, AllocError>
+    requires { IsFinding options.now (S.gives storage.now) (S.keeps storage.now) 1 path.now (finding_of path.now judged) }
     ensures { IfOk result (λ a. IsAuditAnswer options.now (S.gives storage.now) (S.keeps storage.now) (path.now ∷ []) (string_bytes a.text) a.status) }
 {
-    let all = one_judged(workers, alloc, storage, options, path)?;
+    let all = list_of(alloc, judged)?;
     judged_answer(alloc, storage, &[path], options, all)
 }
 
@@ -84,7 +96,12 @@ pub(crate) fn audit_answer<T: Threads + Sync, C: VerdictWorkers, S: Storage + Sy
     ensures { IfOk result (λ a. IsAuditAnswer options.now (S.gives storage.now) (S.keeps storage.now) (map (λ s. s.now) paths.now) (string_bytes a.text) a.status) }
 {
     match paths {
-        [path] => answer_to_one(workers, alloc, storage, path, options),
+        [path] => {
+            let number = 1;
+            let named = NumberedFile { number, path };
+            let judged = judge(workers, alloc, storage, options, named);
+            answer_to_one(alloc, storage, path, options, judged)
+        }
         _ => {
             let all = all_judged(rt, alloc, storage, options, paths)?;
             judged_answer(alloc, storage, paths, options, all)

@@ -1,13 +1,21 @@
 //! The engine: it has files judged, and writes one text.
 ghost use Rattle.std.specs.Prelude.{◌∷◌, [], map};
+ghost use Rattle.sw_app.specs.VerdictAnswers.{IsDecideFinding};
+ghost use Rattle.sw_engine.specs.Files.{network_of};
+ghost use Rattle.sw_engine.specs.Tellings.{HoldsOfFound};
 ghost use Rattle.sw_json_verdicts.specs.AuditAnswers.{IsAuditAnswer, IsAuditTold, TellsAudit};
+ghost use Rattle.sw_json_verdicts.specs.Findings.{IsFileGiven};
 
 use crate::audit_answer::{answer_to_one, audit_answer};
 use crate::audit_options::AuditOptions;
+use crate::findings::{JudgedFile, judge_file};
+use crate::judged::NumberedFile;
 use crate::stores::Storage;
 use std::alloc::{AllocError, Global};
 use std::io::Write;
 use std::thread::Threads;
+use sw_app::DecideFinding;
+use sw_engine::CommandEnd;
 use sw_search::VerdictWorkers;
 use sw_text::{Answer, Ended, tell};
 
@@ -45,7 +53,7 @@ pub fn audit<T: Threads + Sync, C: VerdictWorkers, S: Storage + Sync, W: Write>(
     tell_audit(writer, options.json, answer)
 }
 
-/// The same of one file. It needs nothing of the host.
+/// The same of one file, with what was read of it and the verdict on its network. It needs nothing of the host.
 pub fn audit_one<C: VerdictWorkers, S: Storage, W: Write>(
     workers: &C,
     alloc: Global,
@@ -53,9 +61,29 @@ pub fn audit_one<C: VerdictWorkers, S: Storage, W: Write>(
     path: &str,
     options: &AuditOptions<'_>,
     writer: &mut W,
-) -> Ended
-    ensures { TellsAudit options.now.json (W.contents writer.old) (W.contents writer.new) (IsAuditAnswer options.now (S.gives storage.now) (S.keeps storage.now) (path.now ∷ [])) result }
+) -> CommandEnd<DecideFinding>
+    ensures ended { TellsAudit options.now.json (W.contents writer.old) (W.contents writer.new) (IsAuditAnswer options.now (S.gives storage.now) (S.keeps storage.now) (path.now ∷ [])) result.ended }
+    ensures read { IsFileGiven (S.gives storage.now path.now) result.file }
+    ensures found { HoldsOfFound IsDecideFinding (network_of result.file) result.found }
 {
-    let answer = answer_to_one(workers, alloc, storage, path, options);
-    tell_audit(writer, options.json, answer)
+    let number = 1;
+    let JudgedFile {
+        judged,
+        file,
+        found,
+    } = judge_file(
+        workers,
+        alloc,
+        storage,
+        options,
+        NumberedFile { number, path },
+    );
+    let answer = answer_to_one(alloc, storage, path, options, judged);
+    let ended = tell_audit(writer, options.json, answer);
+    CommandEnd {
+        ended,
+        file,
+        second: None,
+        found,
+    }
 }

@@ -1,15 +1,16 @@
 //! What is found of a file.
 ghost use Rattle.std.specs.Prelude.{◌≡◌, IfOk, codes, true};
 ghost use Rattle.serde_json.specs.View.{view};
-ghost use Rattle.sw_file.specs.Network.{network_text};
+ghost use Rattle.sw_app.specs.VerdictAnswers.{IsDecideFinding};
+ghost use Rattle.sw_engine.specs.Files.{network_of};
+ghost use Rattle.sw_engine.specs.Tellings.{HoldsOfFound};
 ghost use Rattle.sw_json.specs.FaultValues.{long_value};
 ghost use Rattle.sw_json.specs.FileValues.{kind_value};
 ghost use Rattle.sw_json.specs.VerdictValues.{certificate_bytes};
 ghost use Rattle.sw_search.specs.Verdicts.{IsVerdict};
-ghost use Rattle.sw_json_verdicts.specs.Findings.{IsBareFinding, IsFaultFinding, IsFinding, IsGivenFinding, IsStatus, IsTextFinding, IsVerdictEntry, IsVerdictFinding};
+ghost use Rattle.sw_json_verdicts.specs.Findings.{IsBareFinding, IsFaultFinding, IsFileFinding, IsFileGiven, IsFinding, IsFoundOfFile, IsStatus, IsVerdictEntry, IsVerdictFinding};
 ghost use Rattle.sw_json_verdicts.specs.Judgements.{finding_of};
 ghost use Rattle.sw_json_verdicts.specs.Names.{certificate_name};
-ghost use Rattle.sw_json_verdicts.specs.Stores.{given_of};
 
 use crate::audit_options::AuditOptions;
 use crate::judged::{Judged, NumberedFile, kind_entry, memory_judged};
@@ -17,13 +18,14 @@ use crate::names::certificate_name;
 use crate::statuses::{kept_status, verdict_word};
 use crate::stores::{AuditInput, Storage};
 use std::alloc::{AllocError, Global};
+use sw_app::{DecideFinding, find_verdict};
 use sw_config::Network;
-use sw_file::read_network;
+use sw_engine::{NetworkFile, network_file_of};
 use sw_json::{Value, bare_entry, fault_value, long_value, read_entry, verdict_value};
 use sw_linter::lint_texts;
-use sw_search::{Verdict, VerdictWorkers, decide};
+use sw_search::{Verdict, VerdictWorkers};
 use sw_text::statuses::{BAD, FAULTY, GOOD, UNREAD_OR_UNWRITTEN};
-use sw_text::{FileFault, TextFault};
+use sw_text::{InputText, TextFault};
 
 // The text of the certificate where it is told or kept; empty where the verdict has none, or none is wanted.
 fn wanted_certificate(
@@ -122,22 +124,6 @@ fn verdict_judged<S: Storage>(
     })
 }
 
-// What is found of a network.
-fn network_judged<T: VerdictWorkers, S: Storage>(
-    workers: &T,
-    alloc: Global,
-    storage: &S,
-    options: &AuditOptions<'_>,
-    named: NumberedFile<'_>,
-    text: &[u8],
-    network: &Network,
-) -> Result<Judged, AllocError>
-    ensures { IfOk result (λ j. IsVerdictFinding options.now (S.keeps storage.now) named.entry.number named.entry.path.now text.now network.now (finding_of named.entry.path.now j)) }
-{
-    let verdict = decide(workers, alloc, network)?;
-    verdict_judged(alloc, storage, options, named, text, network, &verdict)
-}
-
 // What is found of a text with a fault.
 fn fault_judged(
     alloc: Global,
@@ -162,28 +148,6 @@ fn fault_judged(
         word: "fault",
         entry: Some(entry),
     })
-}
-
-// What is found of a text.
-fn text_judged<T: VerdictWorkers, S: Storage>(
-    workers: &T,
-    alloc: Global,
-    storage: &S,
-    options: &AuditOptions<'_>,
-    named: NumberedFile<'_>,
-    text: &[u8],
-) -> Result<Judged, AllocError>
-    ensures { IfOk result (λ j. IsTextFinding options.now (S.keeps storage.now) named.entry.number named.entry.path.now text.now (network_text text.now) (finding_of named.entry.path.now j)) }
-{
-    match read_network(alloc, text) {
-        Ok(network) => {
-            let judged = network_judged(workers, alloc, storage, options, named, text, &network);
-            network.discard();
-            judged
-        }
-        Err(FileFault::Text(fault)) => fault_judged(alloc, options, named.path, text, &fault),
-        Err(FileFault::Memory) => Err(AllocError),
-    }
 }
 
 // What is found of a text that is too long.
@@ -228,27 +192,97 @@ fn unread_judged(
     })
 }
 
-// What is found of what a path gave.
-fn input_judged<T: VerdictWorkers, S: Storage>(
+/// What is found of a file that was read, and on whose network there is this verdict.
+fn file_judged<S: Storage>(
+    alloc: Global,
+    storage: &S,
+    options: &AuditOptions<'_>,
+    named: NumberedFile<'_>,
+    file: &NetworkFile,
+    found: &Option<Result<DecideFinding, AllocError>>,
+) -> Result<Judged, AllocError>
+    requires { HoldsOfFound IsDecideFinding (network_of file.now) found.now }
+    ensures { IfOk result (λ j. IsFileFinding options.now (S.keeps storage.now) named.entry.number named.entry.path.now file.now (finding_of named.entry.path.now j)) }
+{
+    match (file, found) {
+        (NetworkFile::Network { text, network }, Some(Ok(found))) => {
+            let verdict = &found.verdict;
+            verdict_judged(alloc, storage, options, named, text, network, verdict)
+        }
+        (NetworkFile::Faulty { text, fault }, _) => {
+            fault_judged(alloc, options, named.path, text, fault)
+        }
+        (NetworkFile::TooLong, _) => long_judged(alloc, options, named.path),
+        (NetworkFile::Unread, _) => unread_judged(alloc, options, named.path),
+        _ => Err(AllocError),
+    }
+}
+
+/// The same, or that memory was wanted.
+fn file_or_memory<S: Storage>(
+    alloc: Global,
+    storage: &S,
+    options: &AuditOptions<'_>,
+    named: NumberedFile<'_>,
+    file: &NetworkFile,
+    found: &Option<Result<DecideFinding, AllocError>>,
+) -> Judged
+    requires { HoldsOfFound IsDecideFinding (network_of file.now) found.now }
+    ensures { IsFoundOfFile options.now (S.keeps storage.now) named.entry.number named.entry.path.now file.now (finding_of named.entry.path.now result) }
+{
+    match file_judged(alloc, storage, options, named, file, found) {
+        Ok(judged) => judged,
+        Err(_) => memory_judged(),
+    }
+}
+
+/// A network file, as the storage gives it.
+fn read_file<S: Storage>(alloc: Global, storage: &S, path: &str) -> NetworkFile
+    ensures { IsFileGiven (S.gives storage.now path.now) result }
+{
+    match storage.read(alloc, path) {
+        AuditInput::Whole(text) => network_file_of(alloc, InputText::Whole(text)),
+        AuditInput::TooLong => NetworkFile::TooLong,
+        AuditInput::Unread => NetworkFile::Unread,
+        AuditInput::NoMemory => NetworkFile::NoMemory,
+    }
+}
+
+/// What is found of a file, with what was read of it and the verdict on its network.
+#[derive(Drop)]
+pub(crate) struct JudgedFile {
+    pub(crate) judged: Judged,
+    pub(crate) file: NetworkFile,
+    pub(crate) found: Option<Result<DecideFinding, AllocError>>,
+}
+
+/// What is found of a file. Want of memory is found of it too.
+pub(crate) fn judge_file<T: VerdictWorkers, S: Storage>(
     workers: &T,
     alloc: Global,
     storage: &S,
     options: &AuditOptions<'_>,
     named: NumberedFile<'_>,
-    input: &AuditInput,
-) -> Result<Judged, AllocError>
-    ensures { IfOk result (λ j. IsGivenFinding options.now (S.keeps storage.now) named.entry.number named.entry.path.now (given_of input.now) (finding_of named.entry.path.now j)) }
+) -> JudgedFile
+    ensures judged { IsFinding options.now (S.gives storage.now) (S.keeps storage.now) named.entry.number named.entry.path.now (finding_of named.entry.path.now result.judged) }
+    ensures read { IsFileGiven (S.gives storage.now named.entry.path.now) result.file }
+    ensures found { HoldsOfFound IsDecideFinding (network_of result.file) result.found }
 {
-    match input {
-        AuditInput::Whole(text) => text_judged(workers, alloc, storage, options, named, text),
-        AuditInput::TooLong => long_judged(alloc, options, named.path),
-        AuditInput::Unread => unread_judged(alloc, options, named.path),
-        AuditInput::NoMemory => Ok(memory_judged()),
+    let file = read_file(alloc, storage, named.path);
+    let found = match file.network() {
+        Some(network) => Some(find_verdict(workers, alloc, network)),
+        None => None,
+    };
+    let judged = file_or_memory(alloc, storage, options, named, &file, &found);
+    JudgedFile {
+        judged,
+        file,
+        found,
     }
 }
 
-/// What is found of a file. Want of memory is found of it too.
-pub(crate) fn judged<T: VerdictWorkers, S: Storage>(
+/// The same, where no more than that is wanted.
+pub(crate) fn judge<T: VerdictWorkers, S: Storage>(
     workers: &T,
     alloc: Global,
     storage: &S,
@@ -257,9 +291,7 @@ pub(crate) fn judged<T: VerdictWorkers, S: Storage>(
 ) -> Judged
     ensures { IsFinding options.now (S.gives storage.now) (S.keeps storage.now) named.entry.number named.entry.path.now (finding_of named.entry.path.now result) }
 {
-    let input = storage.read(alloc, named.path);
-    match input_judged(workers, alloc, storage, options, named, &input) {
-        Ok(judged) => judged,
-        Err(_) => memory_judged(),
-    }
+    let all = judge_file(workers, alloc, storage, options, named);
+    all.file.discard();
+    all.judged
 }

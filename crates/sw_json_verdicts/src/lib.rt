@@ -1,4 +1,4 @@
-//! The answers of `route` and `report` as an object of JSON, and the engine of `check` that answers with one.
+//! The answers of `route`, `report` and `check` as an object of JSON.
 //!
 //! The engine of `swcheck audit`: verdicts on many files.
 #![tactic(auto)]
@@ -8,7 +8,7 @@ mod audit_engine;
 pub mod audit_laws;
 mod audit_options;
 mod audit_texts;
-mod check_engine;
+mod check_values;
 mod findings;
 mod judged;
 pub mod laws;
@@ -23,7 +23,6 @@ mod verdict_object;
 
 pub use audit_engine::{audit, audit_one};
 pub use audit_options::AuditOptions;
-pub use check_engine::check;
 pub use stores::{AuditInput, Storage};
 pub use sw_json::Release;
 pub use verdict_object::VerdictObject;

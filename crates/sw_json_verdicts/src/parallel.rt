@@ -1,16 +1,15 @@
-//! Files that are judged side by side, and one alone.
-ghost use Rattle.std.specs.Prelude.{◌<◌, ◌∷◌, [], IfOk, length, map};
+//! Files that are judged side by side.
+ghost use Rattle.std.specs.Prelude.{◌<◌, IfOk, length, map};
 ghost use Rattle.sw_json_verdicts.specs.Judgements.{AreJudged, IsJudgedAt};
 
 use crate::audit_options::AuditOptions;
-use crate::findings::judged;
+use crate::findings::judge;
 use crate::judged::{Judged, NumberedFile};
 use crate::stores::Storage;
 use rayon::prelude::*;
 use std::alloc::{AllocError, Global};
 use std::thread::Threads;
 use sw_graph::OneByOne;
-use sw_search::VerdictWorkers;
 
 // What is found of the file of that place.
 fn judged_at<S: Storage>(
@@ -25,7 +24,7 @@ fn judged_at<S: Storage>(
 {
     let number = place + 1;
     let path = paths[place];
-    judged(
+    judge(
         &OneByOne,
         alloc,
         storage,
@@ -58,31 +57,4 @@ pub(crate) fn all_judged<T: Threads + Sync, S: Storage + Sync>(
             { judged_at(alloc, storage, options, paths, place) },
         )
         .collect(rt, alloc)
-}
-
-/// What is found of one file by the workers.
-///
-/// # Errors
-///
-/// There is no memory for the list.
-pub(crate) fn one_judged<C: VerdictWorkers, S: Storage>(
-    workers: &C,
-    alloc: Global,
-    storage: &S,
-    options: &AuditOptions<'_>,
-    path: &str,
-) -> Result<Vec<Judged>, AllocError>
-    ensures { IfOk result (λ v. AreJudged options.now (S.gives storage.now) (S.keeps storage.now) (path.now ∷ []) v.items) }
-{
-    let number = 1;
-    let found = judged(
-        workers,
-        alloc,
-        storage,
-        options,
-        NumberedFile { number, path },
-    );
-    let mut all = Vec::new(alloc);
-    all.push(found)?;
-    Ok(all)
 }

@@ -16,7 +16,7 @@ use sw_config::Network;
 use sw_flow::{Place, RouteFault};
 use sw_json::laws::faults_are_plain;
 use sw_json::{
-    CommandOutcome, Member, Value, file_fault, misrouted_fault_value, object_of_four, place_values,
+    CommandOutcome, Member, Value, file_fault, misrouted_fault_value, object_of, place_values,
     unknown_flow_value,
 };
 
@@ -55,13 +55,13 @@ fn told_route(
     let name = network.flow(flow).name();
     let fault = fault_or_null(alloc, fault)?;
     let places = place_values(alloc, network, places)?;
-    object_of_four(
-        alloc,
+    let members = vec![in alloc;
         ("fault", Member::Value(fault)),
         ("flow", Member::Text(name)),
         ("kind", Member::Text(kind)),
         ("places", Member::Value(Value::Array(places))),
-    )
+    ]?;
+    object_of(alloc, members)
 }
 
 // The result for a flow.

@@ -7,9 +7,8 @@ use Rattle.sw_load.specs.Cargo.{bytes_of, cargo_of, without_spaces}
 use Rattle.sw_load.specs.Load.{LoadEntry, cargo_at, document_keys, load_of, next_packet}
 use Rattle.sw_config.specs.Entries.{Declaration}
 use Rattle.sw_text.proofs.Walks.{walk_done, walk_fails}
-use Rattle.sw_text.specs.Gives.{Fails, walk}
+use Rattle.sw_text.specs.Gives.{FileFault, Fails, walk}
 use Rattle.sw_text.specs.Table.{only_known, tables_or_none, text_at}
-use Rattle.sw_text.specs.declared.fault.FileFault.{FileFault}
 use Rattle.sw_text.specs.declared.keys.Key.TheVariants.{Cargo, Packet}
 use Rattle.sw_text.specs.declared.keys.Section.{Section}
 use Rattle.sw_text.specs.declared.keys.Section.TheVariants as section

@@ -104,7 +104,7 @@ fn add_packet(
     let end = marker_at(index, &packet)?;
     let count = count_at(index, &packet, load.total())?;
     if !in_flow(network, flow, &cargo, end) {
-        return Err(FileFault::Text(TextFault::NotInFlow(index)));
+        return Err(FileFault::Fault(TextFault::NotInFlow(index)));
     }
     load.add(flow, cargo, end, count)?;
     Ok(())

@@ -11,7 +11,10 @@ use Rattle.sw_run.specs.declared.outcome.Outcome.{Outcome}
 use Rattle.sw_run.specs.declared.outcome.Stop.TheVariants.{Drained, Stuck, Waiting}
 use Rattle.sw_schedule.specs.Schedule.{steps_of_text}
 use Rattle.sw_schedule.specs.Runs.{readable_text}
-use Rattle.sw_runs.specs.ReplayAnswers.{IsReplayAnswer}
+use Rattle.sw_json.specs.Laws.{AreOneButForFaults, HaveOneStatus}
+use Rattle.sw_json.specs.declared.files.Release.{Release}
+use Rattle.sw_runs.specs.ReplayAnswers.{IsReplayAnswer, IsReplayJson}
+use Rattle.sw_runs.specs.RunAnswers.{IsRunAnswer, IsRunJson}
 
 -- all steps are made; as much is undelivered, and the same packets came out, in their order; the network is locked up where the run was
 -- stuck, and is not where it was drained or waits
@@ -39,3 +42,20 @@ abbrev pub ReplayHasOneAnswer : Type 0
 ReplayHasOneAnswer =
     (first second : Option (List ℕ)) (text other : List ℕ) (status number : ℕ)
     → IsReplayAnswer first second text status → IsReplayAnswer first second other number → (text ≡ other) × (status ≡ number)
+
+-- as an object it has one for each two files and paths
+abbrev pub ReplayHasOneObject : Type 0
+ReplayHasOneObject =
+    (path other : List ℕ) (release : Release) (first second : Option (List ℕ)) → AreOneButForFaults (IsReplayJson path other release first second)
+
+-- with the status of the text answer to the same files
+abbrev pub ReplayHasStatusOfText : Type 0
+ReplayHasStatusOfText =
+    (path other : List ℕ) (release : Release) (first second : Option (List ℕ))
+    → HaveOneStatus (IsReplayJson path other release first second) (IsReplayAnswer first second)
+
+-- the status of each object of `run` is that of a text answer that may be given to the same files
+abbrev pub RunHasStatusesOfTexts : Type 0
+RunHasStatusesOfTexts =
+    (limit : ℕ) (path other : List ℕ) (release : Release) (first second : Option (List ℕ)) (text : List ℕ) (status : ℕ)
+    → IsRunJson limit path other release first second text status → (said : List ℕ) × IsRunAnswer limit first second said status

@@ -1,66 +1,120 @@
--- What `run` answers: by what it finds, in some form; and in lines (this project's choice).
-use Rattle.std.specs.Prelude.{ℕ, List, [], ◌∷◌, codes, Option, Some, None, Result, Ok, Err}
-use Rattle.sw_text.specs.Ends.{Answers, Says}
-use Rattle.sw_text.specs.FaultTexts.{fault_text}
-use Rattle.sw_file.specs.Network.{network_text}
-use Rattle.sw_load.specs.Load.{LoadEntry, load_text}
+-- What `run` finds and answers (this project's choice).
+use Rattle.std.specs.Prelude.{◌≡◌, ℕ, Bool, true, false, List, [], ◌∷◌, codes, length, option_map, string_bytes, Option, Some, None, Result, Ok, Err}
+use Rattle.serde_json.specs.Data.{Data}
 use Rattle.sw_config.specs.Entries.{Declaration}
-use Rattle.sw_run.specs.Outcomes.{IsOutcome}
-use Rattle.sw_run.specs.declared.outcome.Outcome.{Outcome}
+use Rattle.sw_engine.specs.LineAnswers.{TwoFilesInLines}
+use Rattle.sw_json.specs.Answering.{IsCommandOutcome, IsFaultyFile, IsLongFile, OfFile, Results}
+use Rattle.sw_json.specs.ObjectAnswers.{TwoFilesAsObject}
+use Rattle.sw_json.specs.declared.files.Release.{Release}
+use Rattle.sw_load.specs.Load.{LoadEntry, load_text}
 use Rattle.sw_output.specs.Lines.{line}
+use Rattle.sw_run.specs.Outcomes.{IsOutcome, steps_of}
+use Rattle.sw_run.specs.declared.outcome.Outcome.{Outcome}
+use Rattle.sw_schedule.specs.Runs.{readable_text}
+use Rattle.sw_text.specs.Ends.{AnswersToTwo}
+use Rattle.sw_text.specs.FaultTexts.{fault_text}
 use Rattle.sw_text.specs.declared.fault.TextFault.{TextFault}
-use Rattle.sw_runs.specs.RunTexts.{outcome_text, stop_status}
+use Rattle.sw_runs.specs.RunTexts.{report_text, stop_status}
+use Rattle.sw_runs.specs.RunValues.{run_value}
+use Rattle.sw_runs.specs.Summaries.{IsWantedSummary}
+use Rattle.sw_runs.specs.declared.run_finding.RunFinding.{RunFinding}
+use Rattle.sw_runs.specs.declared.run_finding.RunFinding.TheVariants.{TooLong, Faulty, Ran}
+use Rattle.sw_runs.specs.declared.run_finding.RunReport.{RunReport}
+use Rattle.sw_runs.specs.declared.run_finding.RunSchedule.{RunSchedule}
+use Rattle.sw_runs.specs.declared.run_finding.RunSchedule.TheVariants as schedule
+use Rattle.sw_runs.specs.declared.run_finding.Wants.{Wants}
 
--- ---- in some form
+-- ---- what is wanted besides
 
--- What is found of a network file and a load file, each told by its path: an outcome of a run on the network; that the text of one has a
--- fault, or is too long.
-pub data RunFinding : Type 0 where
-  ran : (network : Declaration) (outcome : Outcome) → RunFinding
-  faulty : (path : List ℕ) (text : List ℕ) (fault : TextFault) → RunFinding
-  long : (path : List ℕ) → RunFinding
+-- neither a schedule nor a summary
+abbrev pub nothing_wanted : Wants
+nothing_wanted = record { schedule = false; summary = false }
 
--- which texts, each with a status, may answer to a finding: the form of the answer
-abbrev pub Answering : Type 1
-Answering = RunFinding → Answers
+-- a schedule's text; None where it would be too long
+abbrev pub schedule_text : RunSchedule → Option (List ℕ)
+schedule_text (schedule.Text text) = Some (string_bytes text)
+schedule_text schedule.TooLong = None
 
--- the same where an answer tells of the two texts too, None where one is too long
-abbrev pub AnsweringTwo : Type 1
-AnsweringTwo = Option (List ℕ) → Option (List ℕ) → Answering
+-- the schedule of the outcome's steps, if it is wanted
+abbrev pub IsWantedSchedule : Bool → Declaration → Outcome → Option RunSchedule → Type 0
+IsWantedSchedule true d o (Some told) = schedule_text told ≡ readable_text d (steps_of o)
+IsWantedSchedule true d o None = ⊥
+IsWantedSchedule false d o told = told ≡ None
 
--- of a load: of an outcome that is true of a run of it; runs of one load may have different outcomes
-abbrev pub IsOutcomeAnswer : Answering → ℕ → Declaration → List LoadEntry → Answers
-IsOutcomeAnswer says limit d load text status = (o : Outcome) × IsOutcome d load limit o × says (ran d o) text status
+-- the schedule and the summary
+abbrev pub AreBesides : Wants → Declaration → List LoadEntry → Outcome → Option RunSchedule → Option (List ℕ) → Type 0
+AreBesides wants d load o told summary = IsWantedSchedule wants.schedule d o told × IsWantedSummary wants.summary d load o summary
 
--- of the load that a text lists, or of its first fault
-abbrev pub IsLoadAnswer : Answering → List ℕ → List ℕ → ℕ → Declaration → Result (List LoadEntry) TextFault → Answers
-IsLoadAnswer says path bytes limit d (Ok load) text status = IsOutcomeAnswer says limit d load text status
-IsLoadAnswer says path bytes limit d (Err fault) text status = says (faulty path bytes fault) text status
+-- ---- findings
 
--- of a load file
-abbrev pub IsLoadFileAnswer : Answering → List ℕ → ℕ → Declaration → Option (List ℕ) → Answers
-IsLoadFileAnswer says path limit d (Some bytes) text status = IsLoadAnswer says path bytes limit d (load_text d bytes) text status
-IsLoadFileAnswer says path limit d None text status = says (long path) text status
+-- what an outcome says, and what is wanted besides
+pub record TellsOutcome (wants : Wants) (d : Declaration) (load : List LoadEntry) (o : Outcome) (r : RunReport) : Type 0 where
+  pub stop : r.stop ≡ o.stop
+  pub undelivered : r.undelivered ≡ o.undelivered
+  pub came_out : r.came_out ≡ o.came_out
+  pub besides : AreBesides wants d load o r.schedule (option_map string_bytes r.summary)
 
--- of a text that is a network, with the load file, or of the network's first fault
-abbrev pub IsRunOf : Answering → List ℕ → List ℕ → List ℕ → ℕ → Option (List ℕ) → Result Declaration TextFault → Answers
-IsRunOf says path other bytes limit second (Ok d) text status = IsLoadFileAnswer says other limit d second text status
-IsRunOf says path other bytes limit second (Err fault) text status = says (faulty path bytes fault) text status
+-- it was found of that outcome
+abbrev pub IsReportOf : Wants → Declaration → List LoadEntry → Outcome → RunFinding → Type 0
+IsReportOf wants d load o TooLong = ⊥
+IsReportOf wants d load o (Faulty fault) = ⊥
+IsReportOf wants d load o (Ran report) = TellsOutcome wants d load o report
 
--- Of a network file and of a load file, by their paths, with the most steps of a run: all that is wrong with the first comes before what is
--- with the second.
-abbrev pub IsRunAnswerBy : Answering → List ℕ → List ℕ → ℕ → Option (List ℕ) → Option (List ℕ) → Answers
-IsRunAnswerBy says path other limit (Some bytes) second text status = IsRunOf says path other bytes limit second (network_text bytes) text status
-IsRunAnswerBy says path other limit None second text status = says (long path) text status
+-- of the load that a text lists: of an outcome that is true of a run of it, in at most so many steps; runs of one load may have different outcomes.
+-- Or of the text's first fault.
+abbrev pub IsFoundOfLoad : ℕ → Wants → Declaration → Result (List LoadEntry) TextFault → RunFinding → Type 0
+IsFoundOfLoad limit wants d (Ok load) found = (o : Outcome) × IsOutcome d load limit o × IsReportOf wants d load o found
+IsFoundOfLoad limit wants d (Err fault) found = found ≡ Faulty fault
 
--- ---- in lines, which tell nothing of paths, so there are none
+-- what is found of the text of a load file, None where it is too long, and of a network
+abbrev pub IsRunFinding : ℕ → Wants → Option (List ℕ) → Declaration → RunFinding → Type 0
+IsRunFinding limit wants (Some bytes) d found = IsFoundOfLoad limit wants d (load_text d bytes) found
+IsRunFinding limit wants None d found = found ≡ TooLong
 
--- the text of an outcome, with its status; the line of a fault, with status 3
-abbrev pub in_lines : Answering
-in_lines (ran d o) = Says (outcome_text d o) (stop_status o.stop)
-in_lines (faulty path text fault) = Says (line (fault_text fault ∷ [])) 3
-in_lines (long path) = Says (line (codes "fault A1 TooLong" ∷ [])) 3
+-- of a network, whatever the load: there is a list of packets for each node
+abbrev pub IsRunOf : Declaration → RunFinding → Type 0
+IsRunOf d TooLong = Unit {0}
+IsRunOf d (Faulty fault) = Unit {0}
+IsRunOf d (Ran report) = length report.came_out.items ≡ length d.nodes
 
--- of the bytes of a network file and of a load file
-abbrev pub IsRunAnswer : ℕ → Option (List ℕ) → Option (List ℕ) → Answers
-IsRunAnswer limit first second = IsRunAnswerBy in_lines [] [] limit first second
+-- ---- what is told
+
+-- 0 where all was delivered
+abbrev pub run_status : RunFinding → ℕ
+run_status TooLong = 3
+run_status (Faulty fault) = 3
+run_status (Ran report) = stop_status report.stop
+
+-- in lines
+abbrev pub run_lines : Declaration → RunFinding → List ℕ
+run_lines d TooLong = line (codes "fault A1 TooLong" ∷ [])
+run_lines d (Faulty fault) = line (fault_text fault ∷ [])
+run_lines d (Ran report) = report_text d report
+
+-- as values, by the load file's path and text
+abbrev pub run_results : List ℕ → Option (List ℕ) → Declaration → RunFinding → Results
+run_results path second d TooLong = IsLongFile path
+run_results path second d (Faulty fault) = OfFile path (λ bytes. IsFaultyFile path bytes fault) second
+run_results path second d (Ran report) = IsCommandOutcome (run_value d report) (stop_status report.stop)
+
+-- of the bytes of a network file and of a load file: all that is wrong with the first comes before what is with the second
+abbrev pub IsRunAnswer : ℕ → AnswersToTwo
+IsRunAnswer limit = TwoFilesInLines (IsRunFinding limit nothing_wanted) run_lines run_status
+
+-- as an object, by the files' paths
+abbrev pub IsRunJson : ℕ → List ℕ → List ℕ → Release → AnswersToTwo
+IsRunJson limit = TwoFilesAsObject (codes "run") (IsRunFinding limit nothing_wanted) run_results
+
+-- ---- statuses
+
+faulty_has_status : (path : List ℕ) (second : Option (List ℕ)) (fault : TextFault) (value : Data) (status : ℕ)
+    → OfFile path (λ bytes. IsFaultyFile path bytes fault) second value status → status ≡ 3
+faulty_has_status path (Some bytes) fault value status (told, at, is) = is.1
+faulty_has_status path None fault value status is = is.1
+
+-- a value is told with the finding's status
+pub run_results_have_status : (path : List ℕ) (second : Option (List ℕ)) (d : Declaration) (found : RunFinding) (value : Data) (status : ℕ)
+    → run_results path second d found value status → status ≡ run_status found
+run_results_have_status path second d TooLong value status is = is.1
+run_results_have_status path second d (Faulty fault) value status is = faulty_has_status path second fault value status is
+run_results_have_status path second d (Ran report) value status is = is.1

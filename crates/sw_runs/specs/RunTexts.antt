@@ -1,12 +1,12 @@
 -- The text of `run` (this project's choice).
-use Rattle.std.specs.Prelude.{ℕ, List, [], ◌∷◌, ◌++◌, codes}
+use Rattle.std.specs.Prelude.{ℕ, List, [], ◌∷◌, ◌++◌, codes, map}
 use Rattle.sw_config.specs.Entries.{Declaration}
 use Rattle.sw_output.specs.Tallies.{sent_text}
-use Rattle.sw_run.specs.Outcomes.{came_out_of}
-use Rattle.sw_run.specs.declared.outcome.Outcome.{Outcome}
 use Rattle.sw_run.specs.declared.outcome.Stop.{Stop}
 use Rattle.sw_run.specs.declared.outcome.Stop.TheVariants.{Drained, Stuck, Waiting, JournalFull, Memory}
 use Rattle.sw_output.specs.Lines.{line}
+use Rattle.sw_char.specs.PacketView.{PacketView}
+use Rattle.sw_runs.specs.declared.run_finding.RunReport.{RunReport}
 
 -- why a run stopped
 abbrev pub stop_word : Stop → List ℕ
@@ -23,6 +23,10 @@ stop_status Waiting = 4
 stop_status JournalFull = 5
 stop_status Memory = 5
 
+-- the packets that came out, a list for each node
+abbrev pub packets_of : RunReport → List (List PacketView)
+packets_of r = map (λ packets. packets.items) r.came_out.items
+
 -- why the run stopped, then how much was undelivered and which packets had come out
-abbrev pub outcome_text : Declaration → Outcome → List ℕ
-outcome_text d o = line (stop_word o.stop ∷ []) ++ sent_text d o.undelivered (came_out_of o)
+abbrev pub report_text : Declaration → RunReport → List ℕ
+report_text d r = line (stop_word r.stop ∷ []) ++ sent_text d r.undelivered (packets_of r)

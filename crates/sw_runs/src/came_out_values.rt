@@ -9,7 +9,7 @@ use serde_json::Value;
 use std::alloc::{AllocError, Global};
 use sw_char::Packet;
 use sw_config::Network;
-use sw_json::{Member, add_value, object_of_three, object_of_two};
+use sw_json::{Member, add_value, object_of};
 use sw_output::{Tally, packet_end_text, packet_tallies};
 
 fn packet_value(alloc: Global, packet: &Packet) -> Result<Value, AllocError>
@@ -17,11 +17,11 @@ fn packet_value(alloc: Global, packet: &Packet) -> Result<Value, AllocError>
 {
     let bytes = encode_upper(alloc, packet.bytes.as_slice())?;
     let end = packet_end_text(packet.end);
-    object_of_two(
-        alloc,
+    let members = vec![in alloc;
         ("bytes", Member::Value(Value::String(bytes))),
         ("end", Member::Text(end)),
-    )
+    ]?;
+    object_of(alloc, members)
 }
 
 fn tally_value(alloc: Global, tally: &Tally<'_>) -> Result<Value, AllocError>
@@ -31,12 +31,12 @@ fn tally_value(alloc: Global, tally: &Tally<'_>) -> Result<Value, AllocError>
     let packet = tally.packet;
     let bytes = encode_upper(alloc, packet.bytes.as_slice())?;
     let end = packet_end_text(packet.end);
-    object_of_three(
-        alloc,
+    let members = vec![in alloc;
         ("bytes", Member::Value(Value::String(bytes))),
         ("count", Member::Number(count)),
         ("end", Member::Text(end)),
-    )
+    ]?;
+    object_of(alloc, members)
 }
 
 // A value for each packet.
@@ -65,11 +65,11 @@ fn node_value(alloc: Global, name: &str, packets: &[Packet]) -> Result<Value, Al
     ensures { IfOk result (λ v. view v ≡ node_value name.now packets.now) }
 {
     let values = packet_values(alloc, packets)?;
-    object_of_two(
-        alloc,
+    let members = vec![in alloc;
         ("name", Member::Text(name)),
         ("packets", Member::Value(Value::Array(values))),
-    )
+    ]?;
+    object_of(alloc, members)
 }
 
 // A value for each of the different packets.
@@ -85,12 +85,12 @@ fn counted_node_value(alloc: Global, name: &str, packets: &[Packet]) -> Result<V
 {
     let count = packets.len();
     let values = counted_values(alloc, packets)?;
-    object_of_three(
-        alloc,
+    let members = vec![in alloc;
         ("count", Member::Number(count as u64)),
         ("name", Member::Text(name)),
         ("packets", Member::Value(Value::Array(values))),
-    )
+    ]?;
+    object_of(alloc, members)
 }
 
 /// A value for each node, with the packets that came out there.

@@ -1,5 +1,5 @@
-//! What a replay tells. These functions do nothing: each is the proof of what its clause says.
-ghost use Rattle.sw_runs.specs.Laws.{ReplayHasOneAnswer, ReplaysAreAsTold, SchedulesAreRetold};
+//! What a replay and a run tell. These functions do nothing: each is the proof of what its clause says.
+ghost use Rattle.sw_runs.specs.Laws.{ReplayHasOneAnswer, ReplayHasOneObject, ReplayHasStatusOfText, ReplaysAreAsTold, RunHasStatusesOfTexts, SchedulesAreRetold};
 
 use sw_file::laws::{read_names_are_names, read_networks_are_valid};
 use sw_schedule::text_laws::{listed_are_short, schedules_are_read};
@@ -23,4 +23,19 @@ pub fn schedules_are_retold()
 /// `replay` has one answer for each two files: its text and its status.
 pub fn replay_has_one_answer()
     ensures { ReplayHasOneAnswer }
+{}
+
+/// As an object it has one for each two files and paths: its status, and but for faults its text.
+pub fn replay_has_one_object()
+    ensures { ReplayHasOneObject }
+{}
+
+/// The status of that object is that of the text answer to the same files.
+pub fn replay_has_status_of_text()
+    ensures { ReplayHasStatusOfText }
+{}
+
+/// The status of each object of `run` is that of a text answer that may be given to the same files.
+pub fn run_has_statuses_of_texts()
+    ensures { RunHasStatusesOfTexts }
 {}

@@ -10,7 +10,7 @@ use crate::came_out_values::node_values;
 use serde_json::Value;
 use std::alloc::{AllocError, Global};
 use sw_config::Network;
-use sw_json::{Member, object_of_six};
+use sw_json::{Member, object_of};
 use sw_schedule::{ReplayEnd, Replayed, StepRefusal};
 
 // What the end tells: whether all steps were made; how many were, or the number of the one that was refused; and why that was, or null.
@@ -50,13 +50,13 @@ pub(crate) fn replay_value(
     let undelivered = replayed.undelivered;
     let nodes = node_values(alloc, network, replayed.came_out.as_slice())?;
     let (kind, step, code) = told_end(replayed.outcome);
-    object_of_six(
-        alloc,
+    let members = vec![in alloc;
         ("code", code),
         ("kind", Member::Text(kind)),
         ("nodes", Member::Value(Value::Array(nodes))),
         ("step", Member::Number(u64::from(step))),
         ("stuck", Member::Truth(stuck)),
         ("undelivered", Member::Number(undelivered)),
-    )
+    ]?;
+    object_of(alloc, members)
 }

@@ -1,11 +1,12 @@
 //! The text of a run.
 ghost use Rattle.std.specs.Prelude.{◌≡◌, IfOk, length, map, string_bytes};
-ghost use Rattle.sw_runs.specs.RunTexts.{outcome_text, stop_status, stop_word};
+ghost use Rattle.sw_runs.specs.RunTexts.{report_text, stop_status, stop_word};
 
+use crate::run_finding::RunReport;
 use std::alloc::{AllocError, Global};
 use sw_config::Network;
 use sw_output::sent_text;
-use sw_run::{Outcome, Stop};
+use sw_run::Stop;
 use sw_text::statuses::{GOOD, LOCKED_UP, NO_ROOM};
 
 /// Why a run stopped, in a word.
@@ -33,20 +34,20 @@ pub(crate) fn stop_status(stop: Stop) -> u8
 }
 
 /// Why a run stopped, and what had come out of the network then.
-pub(crate) fn outcome_text(
+pub(crate) fn report_text(
     alloc: Global,
     network: &Network,
-    outcome: &Outcome<'_>,
+    report: &RunReport,
 ) -> Result<String, AllocError>
-    requires { length outcome.now.came_out.items ≡ length network.now.nodes }
-    ensures { IfOk result (λ s. string_bytes s ≡ outcome_text network.now outcome.now) }
+    requires { length report.now.came_out.items ≡ length network.now.nodes }
+    ensures { IfOk result (λ s. string_bytes s ≡ report_text network.now report.now) }
 {
-    let stop = stop_word(outcome.stop);
+    let stop = stop_word(report.stop);
     let sent = sent_text(
         alloc,
         network,
-        outcome.undelivered,
-        outcome.came_out.as_slice(),
+        report.undelivered,
+        report.came_out.as_slice(),
     )?;
     format!(in alloc; "{stop}\n{sent}")
 }

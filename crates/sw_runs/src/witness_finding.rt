@@ -1,8 +1,8 @@
 //! What `witness` finds, and its engine.
-ghost use Rattle.std.specs.Prelude.{◌≡◌, IfOk, string_bytes};
+ghost use Rattle.std.specs.Prelude.{◌≡◌, IfOk, string_bytes, None};
 ghost use Rattle.sw_engine.specs.Engines.{AnswersInForm, EndsByOne};
 ghost use Rattle.sw_engine.specs.Files.{IsFileRead, network_of};
-ghost use Rattle.sw_engine.specs.Tellings.{HoldsOfFound};
+ghost use Rattle.sw_engine.specs.Tellings.{AnswersToFile, HoldsOfFound, IsFileTold};
 ghost use Rattle.sw_search.specs.Explanations.{IsExplanation};
 ghost use Rattle.sw_runs.specs.WitnessAnswers.{IsOfKind, IsOfTangled, IsSearched, IsWitnessFinding, unanswered_line, witness_lines, witness_status};
 
@@ -170,15 +170,21 @@ pub fn witness<T: VerdictWorkers, R: Read, F: Form<WitnessFinding>, W: Write>(
     form: &F,
     writer: &mut W,
 ) -> CommandEnd<WitnessFinding>
-    ensures ended { EndsByOne F.memory (AnswersInForm (IsWitnessFinding tries) (F.tells form.now) (F.faulty form.now) (F.long form.now)) (R.remaining reader.old) (R.remaining reader.new) (W.contents writer.old) (W.contents writer.new) result.ended }
+    ensures ended { EndsByOne F.memory (AnswersInForm (IsWitnessFinding tries) (F.tells form.now None) (F.faulty form.now None) (F.long form.now None)) (R.remaining reader.old) (R.remaining reader.new) (W.contents writer.old) (W.contents writer.new) result.ended }
     ensures read { IsFileRead (R.remaining reader.old) (R.remaining reader.new) result.file }
     ensures found { HoldsOfFound (IsWitnessFinding tries) (network_of result.file) result.found }
+    ensures told { IsFileTold F.memory (AnswersToFile (F.tells form.now None) (F.faulty form.now None) (F.long form.now None) result.file result.found) result.file (W.contents writer.old) (W.contents writer.new) result.ended }
 {
     let file = read_network_file(alloc, reader);
     let found = match file.network() {
         Some(network) => Some(find(workers, alloc, network, tries, seed)),
         None => None,
     };
-    let ended = tell_found(form, alloc, &file, &found, writer);
-    CommandEnd { ended, file, found }
+    let ended = tell_found(form, alloc, &file, None, &found, writer);
+    CommandEnd {
+        ended,
+        file,
+        second: None,
+        found,
+    }
 }

@@ -4,8 +4,6 @@ use Rattle.std.specs.Option.{option_map_or}
 use Rattle.std.specs.List.{flat_map, slice_split}
 use Rattle.sw_machine.specs.Steps.{Step}
 use Rattle.sw_config.specs.Entries.{Declaration}
-use Rattle.sw_schedule.specs.declared.schedule.ScheduleFault.{ScheduleFault}
-use Rattle.sw_schedule.specs.declared.schedule.ScheduleFault.TheVariants.{BadLine, Memory}
 use Rattle.sw_schedule.specs.Lines.{Repeated, steps_of_line}
 
 -- each step as many times as it is made
@@ -42,9 +40,3 @@ text_lines text = slice_split (λ b. b == 10) text
 -- the steps that a text lists for a network, in order, or the number of its first wrong line, counted from 1
 unfoldable pub steps_of_text : Declaration → List ℕ → Result (List Step) ℕ
 steps_of_text d text = with_lines d 1 [] (text_lines text)
-
--- What reading gave: the steps, seen by view, or the wrong line, unless memory ran out.
-abbrev pub Reads : {X : Type 0} → (X → List Step) → Result X ScheduleFault → Result (List Step) ℕ → Type 0
-Reads view (Ok x) read = read ≡ Ok (view x)
-Reads view (Err (BadLine n)) read = read ≡ Err n
-Reads view (Err Memory) read = Unit {0}

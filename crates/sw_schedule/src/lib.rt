@@ -21,7 +21,7 @@ mod writing;
 mod written_line;
 
 pub use limited_step::make_step;
-pub use locked_up::{cells, locked_up_parts};
+pub use locked_up::{cells, replay_with_parts};
 pub use names::MAX_COUNT;
 pub use replayed::{ReplayEnd, Replayed, StepRefusal};
 pub use replaying::replay;

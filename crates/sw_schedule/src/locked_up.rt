@@ -2,11 +2,13 @@
 ghost use Rattle.std.specs.Prelude.{◌≡◌, All, IfOk, option_map};
 ghost use Rattle.sw_net.specs.Places.{IsIn};
 ghost use Rattle.sw_net.specs.New.{IsNewNet};
-ghost use Rattle.sw_schedule.specs.Locked.{ArePartsOfNet, TellsLocked, cells_of};
+ghost use Rattle.sw_schedule.specs.Locked.{ArePartsOfNet, TellsLocked, TellsLockedAt, cells_of};
+ghost use Rattle.sw_schedule.specs.Replays.{IsReplayed};
+ghost use Rattle.sw_schedule.specs.Reports.{report_of};
 
-use crate::made_steps::make_from_empty;
 use crate::replay_report::is_locked_up;
-use crate::replayed::ReplayEnd;
+use crate::replayed::{ReplayEnd, Replayed};
+use crate::replaying::replay_on;
 use crate::schedule::Schedule;
 use std::alloc::{AllocError, Global};
 use sw_arb::Policy;
@@ -44,19 +46,15 @@ fn parts(alloc: Global, net: &Net<'_, SwitchRoutes<'_>, Policy>) -> Result<Vec<P
     Ok(all)
 }
 
-/// What each cell has where all steps are made on a network that is still empty, if it is locked up then.
-fn parts_after(
+/// What each cell has where all steps were made, if the network is locked up.
+fn parts_at(
     alloc: Global,
-    net: &mut Net<'_, SwitchRoutes<'_>, Policy>,
-    schedule: &Schedule,
+    net: &Net<'_, SwitchRoutes<'_>, Policy>,
+    end: ReplayEnd,
 ) -> Result<Option<Vec<Part>>, AllocError>
-    requires { IsNewNet net.old.declared net.old }
-    ensures { IfOk result (λ o. TellsLocked net.old.declared schedule.now (option_map (λ all. all.items) o)) }
+    ensures { IfOk result (λ o. TellsLockedAt net.now end (option_map (λ all. all.items) o)) }
 {
-    // Tells that there are at most as many steps as a schedule may have.
-    let _total = schedule.total();
-    let outcome = make_from_empty(alloc, net, schedule.entries())?;
-    match outcome {
+    match end {
         ReplayEnd::Made(_) => {
             if is_locked_up(net, net.undelivered()) {
                 Ok(Some(parts(alloc, net)?))
@@ -68,22 +66,41 @@ fn parts_after(
     }
 }
 
-/// Makes the steps of the schedule one after another, from the empty network on. Where all are
-/// made and the network is locked up then, this is what each cell has of the state, the nodes by
-/// number and then the switches by number; else none.
+/// The replay on a network that is still empty, and what each cell has, if it ends in a lock-up.
+fn replay_on_with_parts(
+    alloc: Global,
+    net: &mut Net<'_, SwitchRoutes<'_>, Policy>,
+    schedule: &Schedule,
+) -> Result<(Replayed, Option<Vec<Part>>), AllocError>
+    requires { IsNewNet net.old.declared net.old }
+    ensures replayed { IfOk result (λ r. IsReplayed net.old.declared schedule.now (report_of r.0)) }
+    ensures parts { IfOk result (λ r. TellsLocked net.old.declared schedule.now (option_map (λ all. all.items) r.1)) }
+{
+    let replayed = replay_on(alloc, net, schedule)?;
+    match parts_at(alloc, net, replayed.outcome) {
+        Ok(parts) => Ok((replayed, parts)),
+        Err(refused) => {
+            drop(replayed);
+            Err(refused)
+        }
+    }
+}
+
+/// The replay of the schedule, as [`replay`](crate::replay) makes it, and what each cell has, if all steps are made and end in a lock-up.
 ///
 /// # Errors
 ///
 /// There is no memory for the network, for what a step stores or for what is told.
-pub fn locked_up_parts(
+pub fn replay_with_parts(
     alloc: Global,
     network: &Network,
     schedule: &Schedule,
-) -> Result<Option<Vec<Part>>, AllocError>
-    ensures { IfOk result (λ o. TellsLocked network.now schedule.now (option_map (λ all. all.items) o)) }
+) -> Result<(Replayed, Option<Vec<Part>>), AllocError>
+    ensures replayed { IfOk result (λ r. IsReplayed network.now schedule.now (report_of r.0)) }
+    ensures parts { IfOk result (λ r. TellsLocked network.now schedule.now (option_map (λ all. all.items) r.1)) }
 {
     let mut net = declared_net(alloc, network)?;
-    let parts = parts_after(alloc, &mut net, schedule);
+    let told = replay_on_with_parts(alloc, &mut net, schedule);
     net.discard();
-    parts
+    told
 }

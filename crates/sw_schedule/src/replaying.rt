@@ -1,6 +1,7 @@
 //! The replay of a schedule.
-ghost use Rattle.std.specs.Prelude.{IfOk};
+ghost use Rattle.std.specs.Prelude.{◌≡◌, IfOk};
 ghost use Rattle.sw_net.specs.New.{IsNewNet};
+ghost use Rattle.sw_schedule.specs.Nets.{EndsFromEmpty};
 ghost use Rattle.sw_schedule.specs.Replays.{IsReplayed};
 ghost use Rattle.sw_schedule.specs.Reports.{report_of};
 
@@ -14,13 +15,15 @@ use sw_config::Network;
 use sw_net::{Net, SwitchRoutes, declared_net};
 
 /// The replay on a network that is still empty.
-fn replay_on(
+pub(crate) fn replay_on(
     alloc: Global,
     net: &mut Net<'_, SwitchRoutes<'_>, Policy>,
     schedule: &Schedule,
 ) -> Result<Replayed, AllocError>
     requires { IsNewNet net.old.declared net.old }
-    ensures { IfOk result (λ r. IsReplayed net.old.declared schedule.now (report_of r)) }
+    ensures replayed { IfOk result (λ r. IsReplayed net.old.declared schedule.now (report_of r)) }
+    ensures network { net.new.declared ≡ net.old.declared }
+    ensures ends { IfOk result (λ r. EndsFromEmpty net.old.declared schedule.now r.outcome net.new) }
 {
     // Tells that there are at most as many steps as a schedule may have.
     let _total = schedule.total();

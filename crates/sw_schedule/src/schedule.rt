@@ -1,45 +1,20 @@
 //! Schedules, and their text.
 ghost use Rattle.std.specs.Prelude.{◌≡◌, ◌≤◌, length};
-ghost use Rattle.sw_schedule.specs.Schedule.{Reads, steps_of, steps_of_text, with_line};
-ghost use Rattle.sw_schedule.specs.declared.schedule.ScheduleFault.TheVariants.{Memory};
+ghost use Rattle.sw_text.specs.Gives.{Gives};
+ghost use Rattle.sw_schedule.specs.Schedule.{steps_of, steps_of_text, with_line};
 
 use crate::line::{entry_of, is_skipped};
 use crate::schedule_entry::ScheduleEntry;
-use std::alloc::{AllocError, AllocFailed, Global};
+use std::alloc::Global;
 use std::marker::Model;
 use sw_config::Network;
-use sw_text::cut;
-use thiserror::Error;
+use sw_text::{OrMemory, cut};
 
 /// A schedule has at most this many steps in all.
 pub const MAX_STEPS: u32 = 1_000_000;
 
-/// Why a text is no schedule.
-#[derive(Debug, Drop, Error)]
-pub enum ScheduleFault {
-    /// This line, counted from 1, is the first that is not as it has to be.
-    #[error("line {0} is wrong")]
-    BadLine(u64),
-    /// There is no memory for it: this tells nothing of the text.
-    #[error("out of memory")]
-    Memory,
-}
-
-impl From<AllocError> for ScheduleFault {
-    ghost from_gives = { λ _ e. e ≡ Memory };
-
-    fn from(_error: AllocError) -> ScheduleFault {
-        ScheduleFault::Memory
-    }
-}
-
-impl<T: Drop> From<AllocFailed<T>> for ScheduleFault {
-    ghost from_gives = { λ _ e. e ≡ Memory };
-
-    fn from(_error: AllocFailed<T>) -> ScheduleFault {
-        ScheduleFault::Memory
-    }
-}
+/// The number of the first line of a schedule that is wrong, counted from 1, or want of memory.
+pub type ScheduleFault = OrMemory<u64>;
 
 /// Steps to be made, in order; at most 1,000,000.
 ///
@@ -92,7 +67,7 @@ fn add_line(
     number: u64,
     schedule: &mut Schedule,
 ) -> Result<(), ScheduleFault>
-    ensures { Reads (λ _. schedule.new) result (with_line network.now number schedule.old line.now) }
+    ensures { Gives (λ _. schedule.new) result (with_line network.now number schedule.old line.now) }
 {
     // Tells that there are not too many steps before.
     let total = schedule.total();
@@ -100,11 +75,11 @@ fn add_line(
         return Ok(());
     }
     let Some(entry) = entry_of(alloc, network, line)? else {
-        return Err(ScheduleFault::BadLine(number));
+        return Err(ScheduleFault::Fault(number));
     };
     let count = entry.count();
     if count > MAX_STEPS - total {
-        return Err(ScheduleFault::BadLine(number));
+        return Err(ScheduleFault::Fault(number));
     }
     schedule.entries.push(entry)?;
     schedule.total += count;
@@ -118,7 +93,7 @@ fn add_line(
 /// A line is wrong: the number of the first such line, counted from 1. Or there is no memory for the steps.
 #[tactic(auto, unfolding(crate::specs::Schedule::steps_of_text))]
 pub fn read_steps(alloc: Global, network: &Network, text: &[u8]) -> Result<Schedule, ScheduleFault>
-    ensures { Reads (λ steps. steps) result (steps_of_text network.now text.now) }
+    ensures { Gives (λ steps. steps) result (steps_of_text network.now text.now) }
 {
     let mut schedule = Schedule {
         entries: Vec::new(alloc),

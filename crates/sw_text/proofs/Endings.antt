@@ -1,20 +1,17 @@
 -- What an engine that told a text has done.
 use Rattle.std.proofs.Common.{◌≡◌, ℕ, ◌≤◌, List, [], ◌∷◌, true, false, arith, codes, inl, inr, length, refl, subst, sym}
-use Rattle.std.specs.Prelude.{Option, nat_le, Result, Ok, Err, IfOk, string_bytes}
+use Rattle.std.specs.Prelude.{Option, nat_le, Result, Ok, Err, IfOk}
 use Rattle.std.specs.declared.alloc.AllocError.{AllocError}
 use Rattle.std.specs.Io.KnownBytes.{Consumes, IsAtEnd}
 use Rattle.std.proofs.lemmas.Bool.Decides.{nat_tests}
 use Rattle.sw_text.specs.Reading.{Takes}
 use Rattle.sw_text.specs.declared.read_stream.ReadError.{ReadError}
 use Rattle.sw_text.specs.declared.read_stream.ReadError.TheVariants.{TooLong, Failed, Memory}
-use Rattle.sw_text.specs.declared.answer.Answer.{Answer}
 use Rattle.sw_text.specs.declared.answer.ByteAnswer.{ByteAnswer}
-use Rattle.sw_text.specs.declared.read_texts.InputError.{InputError}
-use Rattle.sw_text.specs.declared.read_texts.InputError.TheVariants as input
 use Rattle.sw_text.specs.declared.write_answer.Ended.{Ended}
 use Rattle.sw_text.specs.declared.write_answer.Ended.TheVariants.{Status, ReadFailed, WriteFailed}
-use Rattle.sw_text.specs.Ends.{Answers, AreUnreadTold, AnswersBy, AnswersByTwo, AnswersToTwo, EndsBy, EndsByTwo, GivesText, IfShort, IsMemoryTold, IsTold, IsUnreadTold, OrMemory}
-use Rattle.sw_text.specs.Told.{IsAnswerTold, IsByteAnswerTold}
+use Rattle.sw_text.specs.Ends.{Answers, AnswersBy, EndsBy, IfShort, IsMemoryTold, IsTold, IsUnreadTold, OrMemory}
+use Rattle.sw_text.specs.Told.{IsAnswerTold}
 use Rattle.sw_text.specs.Lines.{line}
 
 -- a text that may be told was told
@@ -55,54 +52,10 @@ told_answer P before after old new ended read text status given end within answe
     let if_short : IfShort read (P read) text status = rw short answer in
     told P before after old new ended text status (inl (read, (given, inl end), if_short)) is
 
--- a text that may be told of two texts was told
-told_of_two : (P : AnswersToTwo) (first first_after second second_after old new : Option (List ℕ)) (ended : Ended) (text : List ℕ) (status : ℕ)
-    → OrMemory (AnswersByTwo P first first_after second second_after) text status → IsTold old new text status ended
-    → EndsByTwo P first first_after second second_after old new ended
-told_of_two P first first_after second second_after old new (Status n) text status may is = (text, status, may, is)
-told_of_two P first first_after second second_after old new WriteFailed text status may is = (text, status, may, is)
-told_of_two P first first_after second second_after old new ReadFailed text status may is = absurd is
-
--- that memory was wanted
-pub told_memory_of_two : (P : AnswersToTwo) (first first_after second second_after old new : Option (List ℕ)) (ended : Ended)
-    → IsMemoryTold old new ended → EndsByTwo P first first_after second second_after old new ended
-told_memory_of_two P first first_after second second_after old new ended is =
-    told_of_two P first first_after second second_after old new ended (line (codes "fault memory" ∷ [])) 5 (inr (refl, refl)) is
-
--- why the two were not read
-pub told_unread_of_two : (P : AnswersToTwo) (first first_after second second_after old new : Option (List ℕ)) (error : InputError) (ended : Ended)
-    → AreUnreadTold error old new ended → EndsByTwo P first first_after second second_after old new ended
-told_unread_of_two P first first_after second second_after old new input.Memory ended is = told_memory_of_two P first first_after second second_after old new ended is
-told_unread_of_two P first first_after second second_after old new input.Failed ended is =
-    subst (λ (e : Ended). EndsByTwo P first first_after second second_after old new e) (sym is.0) is.1
-
--- an answer to two texts, as they were given
-pub told_answer_of_two : (P : AnswersToTwo) (first first_after second second_after old new : Option (List ℕ)) (ended : Ended) (one other : Option (List ℕ))
-    (text : List ℕ) (status : ℕ) → GivesText first first_after one → GivesText second second_after other
-    → P one other text status → IsTold old new text status ended → EndsByTwo P first first_after second second_after old new ended
-told_answer_of_two P first first_after second second_after old new ended one other text status is_first is_second answer is =
-    told_of_two P first first_after second second_after old new ended text status (inl (one, other, is_first, is_second, answer)) is
-
 -- an answer, or that memory was wanted
-pub answered : (P : List ℕ → Answers) (before after old new : Option (List ℕ)) (ended : Ended) (read : List ℕ) (answer : Result Answer AllocError)
-    → Consumes before after read → IsAtEnd after → length read ≤ 67108864 → IfOk answer (λ a. P read (string_bytes a.text) a.status)
+pub answered : (P : List ℕ → Answers) (before after old new : Option (List ℕ)) (ended : Ended) (read : List ℕ) (answer : Result ByteAnswer AllocError)
+    → Consumes before after read → IsAtEnd after → length read ≤ 67108864 → IfOk answer (λ a. P read a.text.items a.status)
     → IsAnswerTold answer old new ended → EndsBy P before after old new ended
 answered P before after old new ended read (Ok a) given end within met is =
-    told_answer P before after old new ended read (string_bytes a.text) a.status given end within met is
-answered P before after old new ended read (Err none) given end within met is = told_memory P before after old new ended is
-
-pub answered_bytes : (P : List ℕ → Answers) (before after old new : Option (List ℕ)) (ended : Ended) (read : List ℕ) (answer : Result ByteAnswer AllocError)
-    → Consumes before after read → IsAtEnd after → length read ≤ 67108864 → IfOk answer (λ a. P read a.text.items a.status)
-    → IsByteAnswerTold answer old new ended → EndsBy P before after old new ended
-answered_bytes P before after old new ended read (Ok a) given end within met is =
     told_answer P before after old new ended read a.text.items a.status given end within met is
-answered_bytes P before after old new ended read (Err none) given end within met is = told_memory P before after old new ended is
-
-pub answered_of_two : (P : AnswersToTwo) (first first_after second second_after old new : Option (List ℕ)) (ended : Ended) (one other : Option (List ℕ))
-    (answer : Result Answer AllocError) → GivesText first first_after one → GivesText second second_after other
-    → IfOk answer (λ a. P one other (string_bytes a.text) a.status) → IsAnswerTold answer old new ended
-    → EndsByTwo P first first_after second second_after old new ended
-answered_of_two P first first_after second second_after old new ended one other (Ok a) is_first is_second met is =
-    told_answer_of_two P first first_after second second_after old new ended one other (string_bytes a.text) a.status is_first is_second met is
-answered_of_two P first first_after second second_after old new ended one other (Err none) is_first is_second met is =
-    told_memory_of_two P first first_after second second_after old new ended is
+answered P before after old new ended read (Err none) given end within met is = told_memory P before after old new ended is

@@ -18,9 +18,8 @@ use Rattle.sw_text.specs.declared.keys.Section.{Section}
 use Rattle.sw_text.specs.declared.fault.KeyFault.TheVariants.{WrongType}
 use Rattle.sw_text.specs.declared.fault.TextFault.{TextFault}
 use Rattle.sw_text.specs.declared.fault.TextFault.TheVariants as fault
-use Rattle.sw_text.specs.declared.fault.FileFault.{FileFault}
-use Rattle.sw_text.specs.declared.fault.FileFault.TheVariants.{Text}
-use Rattle.sw_text.specs.Gives.{◌>>=◌, ok_or, Fails, each}
+use Rattle.sw_text.specs.declared.fault.OrMemory.TheVariants.{Fault}
+use Rattle.sw_text.specs.Gives.{◌>>=◌, FileFault, ok_or, Fails, each}
 use Rattle.sw_text.proofs.Unknown.{no_name_fault, no_name_passes}
 use Rattle.sw_text.proofs.Walks.{each_done, each_fails}
 
@@ -131,8 +130,8 @@ module _ (s : Section) (key : Key) (ms : Members) (d : Data) (vs items : List Va
       → tables_or_none s key ms ≡ Err (fault.Key WrongType s key)
   no_table i done x so_far lt at none =
       tables_there
-      ∙ items_fail (table_value s key) s key d vs items is same (Text (fault.Key WrongType s key))
-      (each_fails (table_value s key) view items i done x (Text (fault.Key WrongType s key)) so_far lt at (ap (λ o. ok_or o (fault.Key WrongType s key)) (sym none)))
+      ∙ items_fail (table_value s key) s key d vs items is same (Fault (fault.Key WrongType s key))
+      (each_fails (table_value s key) view items i done x (Fault (fault.Key WrongType s key)) so_far lt at (ap (λ o. ok_or o (fault.Key WrongType s key)) (sym none)))
 
   pub all_tables : (i : ℕ) (done : List Members) → each (table_value s key) (take i (map view items)) ≡ Ok done → length items ≤ i → tables_or_none s key ms ≡ Ok done
   all_tables i done so_far past = tables_there ∙ items_done (table_value s key) s key d vs items is same (Ok done) (each_done (table_value s key) view items i done so_far past)

@@ -1,9 +1,8 @@
 -- A walk over a list, and reading of each of a list, as a loop goes along it.
 use Rattle.std.proofs.Common.{◌≡◌, ℕ, zero, suc, ◌+◌, ◌<◌, ◌≤◌, List, [], ◌∷◌, ◌++◌, map, length, take, get_or, Result, Ok, Err, refl, ap, arith}
 use Rattle.sw_text.specs.declared.fault.TextFault.{TextFault}
-use Rattle.sw_text.specs.declared.fault.FileFault.{FileFault}
-use Rattle.sw_text.specs.declared.fault.FileFault.TheVariants.{Text, Memory}
-use Rattle.sw_text.specs.Gives.{◌>>=◌, Fails, walk_from, walk, each}
+use Rattle.sw_text.specs.declared.fault.OrMemory.TheVariants.{Fault, Memory}
+use Rattle.sw_text.specs.Gives.{◌>>=◌, FileFault, Fails, walk_from, walk, each}
 
 -- what follows a step that went well
 after_ok : {S : Type 0} (r : Result S TextFault) (g : S → Result S TextFault) (h : S → Result S TextFault) (t : S) (v : Result S TextFault) → (r >>= g) ≡ Ok t → ((s : S) → g s ≡ Ok t → h s ≡ v) → (r >>= h) ≡ v
@@ -67,7 +66,7 @@ module _ {S X Y : Type 0} (step : ℕ → S → Y → Result S TextFault) (f : X
   pub walk_fails : (s : S) (xs : List X) (i : ℕ) (t : S) (x : X) (e : FileFault) → walk step s (take i (map f xs)) ≡ Ok t → i < length xs → x ≡ get_or xs i x → Fails e (step i t (f x))
       → Fails e (walk step s (map f xs))
   walk_fails s xs i t x Memory so_far lt at here = tt
-  walk_fails s xs i t x (Text e) so_far lt at here = let z : 0 + i ≡ i = omega arith in step_fails 0 i s xs t x e so_far lt at (rw z here)
+  walk_fails s xs i t x (Fault e) so_far lt at here = let z : 0 + i ≡ i = omega arith in step_fails 0 i s xs t x e so_far lt at (rw z here)
 
   pub walk_done : (s : S) (xs : List X) (i : ℕ) (t : S) → walk step s (take i (map f xs)) ≡ Ok t → length xs ≤ i → walk step s (map f xs) ≡ Ok t
   walk_done s xs i t so_far le = let e : take i (map f xs) ≡ map f xs = take_all (map f xs) i (rw length_map le) in rw e at so_far
@@ -96,7 +95,7 @@ module _ {A X Y : Type 0} (one : Y → Result A TextFault) (f : X → Y) where
   pub each_fails : (xs : List X) (i : ℕ) (done : List A) (x : X) (e : FileFault) → each one (take i (map f xs)) ≡ Ok done → i < length xs → x ≡ get_or xs i x → Fails e (one (f x))
       → Fails e (each one (map f xs))
   each_fails xs i done x Memory so_far lt at here = tt
-  each_fails xs i done x (Text e) so_far lt at here = one_fails xs i done x e so_far lt at here
+  each_fails xs i done x (Fault e) so_far lt at here = one_fails xs i done x e so_far lt at here
 
   pub each_done : (xs : List X) (i : ℕ) (done : List A) → each one (take i (map f xs)) ≡ Ok done → length xs ≤ i → each one (map f xs) ≡ Ok done
   each_done xs i done so_far le = let e : take i (map f xs) ≡ map f xs = take_all (map f xs) i (rw length_map le) in rw e at so_far

@@ -4,8 +4,6 @@ use Rattle.std.specs.Io.KnownBytes.{Appends, Consumes, IsAtEnd, Keeps}
 use Rattle.sw_text.specs.Reading.{Takes}
 use Rattle.sw_text.specs.declared.read_stream.ReadError.{ReadError}
 use Rattle.sw_text.specs.declared.read_stream.ReadError.TheVariants.{TooLong, Failed, Memory}
-use Rattle.sw_text.specs.declared.read_texts.InputError.{InputError}
-use Rattle.sw_text.specs.declared.read_texts.InputError.TheVariants as input
 use Rattle.sw_text.specs.declared.write_answer.Ended.{Ended}
 use Rattle.sw_text.specs.declared.write_answer.Ended.TheVariants.{Status, ReadFailed, WriteFailed}
 use Rattle.sw_text.specs.Lines.{line}
@@ -63,11 +61,6 @@ IsUnreadTold TooLong old new ended = IsTold old new (line (codes "fault A1 TooLo
 IsUnreadTold Memory old new ended = IsMemoryTold old new ended
 IsUnreadTold Failed old new ended = (ended ≡ ReadFailed) × Keeps old new
 
--- why two texts were not read was told, and of a read that failed nothing
-abbrev pub AreUnreadTold : InputError → Option (List ℕ) → Option (List ℕ) → Ended → Type 0
-AreUnreadTold input.Memory old new ended = IsMemoryTold old new ended
-AreUnreadTold input.Failed old new ended = (ended ≡ ReadFailed) × Keeps old new
-
 -- one of the answers was told, and nothing else
 abbrev pub Tells : Option (List ℕ) → Option (List ℕ) → Answers → Ended → Type 0
 Tells old new P ended = (text : List ℕ) × (status : ℕ) × OrMemory P text status × IsTold old new text status ended
@@ -104,15 +97,6 @@ AnswersToTwo = Option (List ℕ) → Option (List ℕ) → Answers
 abbrev pub AnswersByTwo : AnswersToTwo → Option (List ℕ) → Option (List ℕ) → Option (List ℕ) → Option (List ℕ) → Answers
 AnswersByTwo P first first_after second second_after text status =
     (one : Option (List ℕ)) × (other : Option (List ℕ)) × GivesText first first_after one × GivesText second second_after other × P one other text status
-
--- An engine that reads two texts, both before it looks at either: what it tells is an answer to the two, or that memory was wanted;
--- where a read failed nothing is written.
-abbrev pub EndsByTwo : AnswersToTwo → Option (List ℕ) → Option (List ℕ) → Option (List ℕ) → Option (List ℕ) → Option (List ℕ) → Option (List ℕ) → Ended → Type 0
-EndsByTwo P first first_after second second_after old new (Status n) =
-    Tells old new (AnswersByTwo P first first_after second second_after) (Status n)
-EndsByTwo P first first_after second second_after old new WriteFailed =
-    Tells old new (AnswersByTwo P first first_after second second_after) WriteFailed
-EndsByTwo P first first_after second second_after old new ReadFailed = Keeps old new
 
 -- a reader was read to its end, or to one byte past the most that a text may have
 abbrev pub IsReadWhole : Option (List ℕ) → Option (List ℕ) → Type 0

@@ -1,27 +1,31 @@
 -- Reading that stops at its first fault, and what a function of the program says of it.
 use Rattle.std.specs.Prelude.{◌≡◌, ℕ, suc, List, [], ◌∷◌, Option, Some, None, Result, Ok, Err}
 use Rattle.sw_text.specs.declared.fault.TextFault.{TextFault}
-use Rattle.sw_text.specs.declared.fault.FileFault.{FileFault}
-use Rattle.sw_text.specs.declared.fault.FileFault.TheVariants.{Text, Memory}
+use Rattle.sw_text.specs.declared.fault.OrMemory.{OrMemory}
+use Rattle.sw_text.specs.declared.fault.OrMemory.TheVariants.{Fault, Memory}
+
+-- the first fault of a text, or want of memory
+abbrev pub FileFault : Type 0
+FileFault = OrMemory TextFault
 
 -- the second reading goes on from what the first gave
 infixl 10 ◌>>=◌
-abbrev pub ◌>>=◌ : {A B : Type 0} → Result A TextFault → (A → Result B TextFault) → Result B TextFault
+abbrev pub ◌>>=◌ : {A B F : Type 0} → Result A F → (A → Result B F) → Result B F
 (Ok x) >>= f = f x
 (Err e) >>= f = Err e
 
 -- what is there, or a fault
-abbrev pub ok_or : {A : Type 0} → Option A → TextFault → Result A TextFault
+abbrev pub ok_or : {A F : Type 0} → Option A → F → Result A F
 ok_or (Some x) fault = Ok x
 ok_or None fault = Err fault
 
 -- what a function returned as its error is the fault of reading, unless memory ran out
-abbrev pub Fails : {Y : Type 0} → FileFault → Result Y TextFault → Type 0
+abbrev pub Fails : {Y F : Type 0} → OrMemory F → Result Y F → Type 0
 Fails Memory read = Unit {0}
-Fails (Text fault) read = read ≡ Err fault
+Fails (Fault fault) read = read ≡ Err fault
 
 -- what a function returned, seen by view, is what reading gives, unless memory ran out
-abbrev pub Gives : {X Y : Type 0} → (X → Y) → Result X FileFault → Result Y TextFault → Type 0
+abbrev pub Gives : {X Y F : Type 0} → (X → Y) → Result X (OrMemory F) → Result Y F → Type 0
 Gives view (Ok x) read = read ≡ Ok (view x)
 Gives view (Err e) read = Fails e read
 

@@ -1,12 +1,11 @@
 //! Answers of an engine.
 ghost use Rattle.std.specs.Prelude.{◌≡◌, ◌∷◌, [], IfOk, codes, string_bytes};
 ghost use Rattle.sw_text.specs.FaultTexts.{fault_text};
-ghost use Rattle.sw_text.specs.Told.{IsFaultAnswer};
 ghost use Rattle.sw_text.specs.Lines.{line};
 
+use crate::TextFault;
 use crate::fault_texts::fault_text;
 use crate::statuses::FAULTY;
-use crate::{FileFault, TextFault};
 use std::alloc::{AllocError, Global};
 
 /// What an engine writes, and the status that says what it is.
@@ -70,19 +69,5 @@ impl Answer {
             text: self.text.into_bytes(),
             status: self.status,
         }
-    }
-}
-
-/// The answer to a text that was not read as a network, if it was not for want of memory.
-///
-/// # Errors
-///
-/// There is no memory for it, or there was none for the network.
-pub fn fault_answer(alloc: Global, fault: FileFault) -> Result<Answer, AllocError>
-    ensures { IfOk result (λ a. IsFaultAnswer fault (string_bytes a.text) a.status) }
-{
-    match fault {
-        FileFault::Text(fault) => Answer::of_fault(alloc, &fault),
-        FileFault::Memory => Err(AllocError),
     }
 }

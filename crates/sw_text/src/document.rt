@@ -21,7 +21,7 @@ pub fn read_document(alloc: Global, bytes: &[u8]) -> Result<Table, FileFault>
             if error.is_memory() {
                 return Err(FileFault::Memory);
             }
-            Err(FileFault::Text(TextFault::Syntax))
+            Err(FileFault::Fault(TextFault::Syntax))
         }
     }
 }

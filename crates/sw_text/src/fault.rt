@@ -1,6 +1,6 @@
 //! Why a text is no network, or no load.
 ghost use Rattle.std.specs.Prelude.{◌≡◌};
-ghost use Rattle.sw_text.specs.declared.fault.FileFault.TheVariants.{Memory};
+ghost use Rattle.sw_text.specs.declared.fault.OrMemory.TheVariants.{Memory};
 
 use crate::keys::{Key, Section};
 use crate::names::Name;
@@ -42,29 +42,32 @@ pub enum TextFault {
     NotInFlow(usize),
 }
 
-/// The first fault of a text, or want of memory.
+/// A fault, or want of memory.
 #[derive(Debug, Drop, Error)]
-pub enum FileFault {
-    /// The first fault of the text.
-    #[error("the text has a fault")]
-    Text(TextFault),
-    /// There is no memory for it: this tells nothing of the text.
+pub enum OrMemory<F> {
+    /// What is wrong.
+    #[error("there is a fault")]
+    Fault(F),
+    /// There is no memory for it: this tells nothing of what was read.
     #[error("out of memory")]
     Memory,
 }
 
-impl From<AllocError> for FileFault {
+impl<F> From<AllocError> for OrMemory<F> {
     ghost from_gives = { λ _ e. e ≡ Memory };
 
-    fn from(_error: AllocError) -> FileFault {
-        FileFault::Memory
+    fn from(_error: AllocError) -> OrMemory<F> {
+        OrMemory::Memory
     }
 }
 
-impl<T: Drop> From<AllocFailed<T>> for FileFault {
+impl<F, T: Drop> From<AllocFailed<T>> for OrMemory<F> {
     ghost from_gives = { λ _ e. e ≡ Memory };
 
-    fn from(_error: AllocFailed<T>) -> FileFault {
-        FileFault::Memory
+    fn from(_error: AllocFailed<T>) -> OrMemory<F> {
+        OrMemory::Memory
     }
 }
+
+/// The first fault of a text, or want of memory.
+pub type FileFault = OrMemory<TextFault>;

@@ -24,19 +24,17 @@ mod table;
 mod write_answer;
 mod write_stream;
 
-pub use answer::{Answer, ByteAnswer, fault_answer};
+pub use answer::{Answer, ByteAnswer};
 pub use bytes::cut;
 pub use decimal::number;
 pub use document::read_document;
-pub use fault::{FileFault, KeyFault, TextFault};
+pub use fault::{FileFault, KeyFault, OrMemory, TextFault};
 pub use fault_texts::{fault_text, where_text};
 pub use keys::{Key, Section, Version};
 pub use limits::MAX_TEXT;
 pub use names::Name;
 pub use read_stream::{ReadError, read_whole};
-pub use read_texts::{InputError, InputText, read_one, read_two, tell_two_unread};
+pub use read_texts::{InputError, InputText, read_one, read_two};
 pub use table::TableEntry;
-pub use write_answer::{
-    Ended, tell, tell_answer, tell_byte_answer, tell_bytes, tell_memory, tell_unread,
-};
+pub use write_answer::{Ended, tell, tell_answer, tell_bytes, tell_memory, tell_unread};
 pub use write_stream::{WriteError, write_whole};

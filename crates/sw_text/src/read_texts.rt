@@ -1,12 +1,11 @@
 //! The texts that an engine reads.
 ghost use Rattle.std.specs.Prelude.{◌≡◌, Err, IfOk, Ok};
-ghost use Rattle.sw_text.specs.Ends.{AreReadInOrder, AreUnreadTold, GivesText, IsReadWhole};
+ghost use Rattle.sw_text.specs.Ends.{AreReadInOrder, GivesText, IsReadWhole};
 ghost use Rattle.sw_text.specs.Inputs.{given};
 
-use crate::write_answer::{Ended, tell_memory};
 use crate::{MAX_TEXT, ReadError, read_whole};
 use std::alloc::Global;
-use std::io::{Read, Write};
+use std::io::Read;
 
 /// A text that was read.
 #[derive(Drop)]
@@ -71,14 +70,4 @@ pub fn read_two<A: Read, B: Read>(
     let text = read_one(alloc, first)?;
     let other = read_one(alloc, second)?;
     Ok((text, other))
-}
-
-/// Tells why two texts were not read: of a read that failed nothing is written.
-pub fn tell_two_unread<W: Write>(writer: &mut W, error: InputError) -> Ended
-    ensures { AreUnreadTold error (W.contents writer.old) (W.contents writer.new) result }
-{
-    match error {
-        InputError::Failed => Ended::ReadFailed,
-        InputError::Memory => tell_memory(writer),
-    }
 }

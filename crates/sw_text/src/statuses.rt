@@ -1,10 +1,13 @@
-//! The statuses that the program exits with, but for that of refused words, which is `sw_args`'s.
+//! The statuses that the program exits with.
 
 /// The answer is the good one: routed, free, accepted, reported, replayed without a lock-up, drained.
 pub const GOOD: u8 = 0;
 
 /// The answer is the bad one: misrouted, cyclic, a certificate refused, a step of a schedule refused.
 pub const BAD: u8 = 1;
+
+/// The words give no call.
+pub const REFUSED: u8 = 2;
 
 /// A text has a fault.
 pub const FAULTY: u8 = 3;

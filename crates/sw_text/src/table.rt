@@ -8,7 +8,7 @@ ghost use Rattle.sw_text.specs.Keys.{key_text};
 ghost use Rattle.sw_text.specs.Names.{is_name_byte, is_name, name_at};
 ghost use Rattle.sw_text.specs.Table.{is_known, only_known, absent, number_value, numbers_value, text_at, text_or_none, number_at, number_or, number_or_none, numbers_at, numbers_or_none, tables_or_none, table_or_none, flag_or_false};
 
-use crate::fault::{FileFault, KeyFault, TextFault};
+use crate::fault::{FileFault, KeyFault, OrMemory, TextFault};
 use crate::keys::{Key, Section};
 use crate::names::Name;
 use std::alloc::Global;
@@ -63,9 +63,9 @@ pub struct TableEntry<'a> {
 impl<'a> TableEntry<'a> {
     /// The fault at a key of this table.
     pub fn fault(&self, fault: KeyFault, key: Key) -> FileFault
-        ensures { result ≡ FileFault.Text (TextFault.Key fault self.now.section key) }
+        ensures { result ≡ OrMemory.Fault (TextFault.Key fault self.now.section key) }
     {
-        FileFault::Text(TextFault::Key(fault, self.section, key))
+        OrMemory::Fault(TextFault::Key(fault, self.section, key))
     }
 
     /// Refuses a key that this table may not have.
@@ -73,7 +73,7 @@ impl<'a> TableEntry<'a> {
         ensures { Gives (λ x. x) result (Err (TextFault.UnknownKey self.now.section key.now)) }
     {
         let text = String::from_str(alloc, key)?;
-        Err(FileFault::Text(TextFault::UnknownKey(self.section, Name { text })))
+        Err(FileFault::Fault(TextFault::UnknownKey(self.section, Name { text })))
     }
 
     /// Refuses a table with a key that it may not have.

@@ -1,9 +1,9 @@
 //! How an engine ends.
 ghost use Rattle.std.specs.Prelude.{◌≡◌};
 ghost use Rattle.sw_text.specs.Ends.{IsMemoryTold, IsTold, IsUnreadTold};
-ghost use Rattle.sw_text.specs.Told.{IsAnswerTold, IsByteAnswerTold};
+ghost use Rattle.sw_text.specs.Told.{IsAnswerTold};
 
-use crate::answer::{Answer, ByteAnswer};
+use crate::answer::ByteAnswer;
 use crate::statuses::{FAULTY, NO_ROOM, UNREAD_OR_UNWRITTEN};
 use crate::{ReadError, write_whole};
 use std::alloc::AllocError;
@@ -59,18 +59,8 @@ pub fn tell_memory<W: Write>(writer: &mut W) -> Ended
 }
 
 /// Writes an answer, or that memory was wanted.
-pub fn tell_answer<W: Write>(writer: &mut W, answer: Result<Answer, AllocError>) -> Ended
+pub fn tell_answer<W: Write>(writer: &mut W, answer: Result<ByteAnswer, AllocError>) -> Ended
     ensures { IsAnswerTold answer (W.contents writer.old) (W.contents writer.new) result }
-{
-    match answer {
-        Ok(answer) => tell(writer, answer.text.as_str(), answer.status),
-        Err(_) => tell_memory(writer),
-    }
-}
-
-/// The same, where the answer is at hand as bytes.
-pub fn tell_byte_answer<W: Write>(writer: &mut W, answer: Result<ByteAnswer, AllocError>) -> Ended
-    ensures { IsByteAnswerTold answer (W.contents writer.old) (W.contents writer.new) result }
 {
     match answer {
         Ok(answer) => tell_bytes(writer, &answer.text, answer.status),

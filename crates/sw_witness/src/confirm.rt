@@ -31,7 +31,7 @@ pub fn locks_up(alloc: Global, network: &Network, text: &[u8]) -> Result<bool, A
 {
     match read_steps(alloc, network, text) {
         Ok(schedule) => leads_to_lock_up(alloc, network, &schedule),
-        Err(ScheduleFault::BadLine(_)) => Ok(false),
+        Err(ScheduleFault::Fault(_)) => Ok(false),
         Err(ScheduleFault::Memory) => Err(AllocError),
     }
 }

@@ -2,177 +2,39 @@
 ghost use Rattle.std.specs.Prelude.{◌<◌};
 ghost use Rattle.sw_args.specs.CommandLine.{HasWorkers};
 
-use crate::call_end::{CallEnd, call_end, hinted_status, noted_end};
+use crate::call_end::{CallEnd, call_end, faulty_end, noted_end};
 use crate::disk::{Disk, RELEASE};
+use crate::found_hints::{
+    check_hint, decide_hint, draw_hint, mend_hint, replay_hint, rmap_hint, route_hint, run_hint,
+    witness_hint,
+};
 use crate::noting_writer::NotingWriter;
+use crate::objects::{object, objects, verdict_object, verdict_objects};
 use crate::opened::opened;
-use crate::recorded::{Job, run_load};
-use crate::rerun_hints::{check_hint, decide_hint_again, migrate_hint, replay_hint, run_hint};
+use crate::recorded::{Job, is_schedule_read, run_load, tell_besides};
 use crate::rmap_words::access_of;
-use std::alloc::{AllocError, Global};
 use std::fs;
 use std::io::Write;
 use std::rt::Files;
 use std::sync::Wait;
 use std::thread::Threads;
-use sw_app::{DecideFinding, RouteFinding, report, route};
-use sw_app_rmap::{Request, RmapFault, RmapFinding, rmap};
+use sw_app::{check, report, route};
+use sw_app_rmap::{Request, rmap};
 use sw_args::Call;
 use sw_calls::{
     Hints, check_files, decide_file, migrate_file, report_file, route_file, tell_refused,
     write_sample,
 };
-use sw_changes::{Mending, margin, mend};
-use sw_config::Network;
+use sw_changes::{margin, mend};
 use sw_engine::{CommandEnd, Lines};
-use sw_explain::{DrawFinding, DrawOptions, draw, explain};
-use sw_flow::{Place, RouteFault};
-use sw_hints::{cyclic_hint, misrouted_hint, unknown_flow_hint};
-use sw_json::ObjectForm;
-use sw_json_verdicts::{AuditOptions, VerdictObject, audit};
-use sw_runs::{WitnessFinding, replay, replay_object, witness};
-use sw_search::{Verdict, VerdictWorkers};
+use sw_explain::{DrawOptions, draw, explain};
+use sw_json_verdicts::{AuditOptions, audit, audit_one};
+use sw_runs::{replay, witness};
+use sw_search::VerdictWorkers;
 use sw_text::Ended;
 
 // What is told of words of `rmap` that ask for no command.
 const NO_ACCESS: &str = "ACTION is read or write, and --no-ack goes with write alone";
-
-// The form of an answer that is an object, of a file of this name.
-fn object(path: &str) -> ObjectForm<'_> {
-    ObjectForm {
-        path,
-        release: RELEASE,
-    }
-}
-
-// The same, of `route` and `report`.
-fn verdict_object(path: &str) -> VerdictObject<'_> {
-    VerdictObject {
-        path,
-        release: RELEASE,
-    }
-}
-
-// ---- hints of what was found
-
-// The hint of a flow that has this fault at this place.
-fn misrouted_text(
-    alloc: Global,
-    name: &str,
-    network: &Network,
-    flow: u16,
-    place: &Place,
-    fault: RouteFault,
-) -> Result<Option<String>, AllocError> {
-    let hint = misrouted_hint(alloc, network, flow, place, fault)?;
-    Ok(Some(hint.text(alloc, name)?))
-}
-
-// The hint of a name that no flow has.
-fn unknown_flow_text(
-    alloc: Global,
-    name: &str,
-    network: &Network,
-    flow: &str,
-) -> Result<Option<String>, AllocError> {
-    let hint = unknown_flow_hint(alloc, network, flow)?;
-    Ok(Some(hint.text(alloc, name)?))
-}
-
-// What to tell of a route of a flow of this name.
-fn route_hint(
-    alloc: Global,
-    name: &str,
-    flow: &str,
-    network: &Network,
-    found: &RouteFinding,
-) -> Result<Option<String>, AllocError> {
-    match found {
-        RouteFinding::UnknownFlow => unknown_flow_text(alloc, name, network, flow),
-        RouteFinding::Found(route) => match &route.fault {
-            Some((place, fault)) => {
-                misrouted_text(alloc, name, network, route.flow, place, *fault)
-            }
-            None => Ok(None),
-        },
-    }
-}
-
-// What to tell of the verdict on a network.
-fn decide_hint(
-    alloc: Global,
-    name: &str,
-    network: &Network,
-    found: &DecideFinding,
-) -> Result<Option<String>, AllocError> {
-    match &found.verdict {
-        Verdict::Misrouted(flow, place, fault) => {
-            misrouted_text(alloc, name, network, *flow, place, *fault)
-        }
-        Verdict::Cyclic(_) => Ok(Some(cyclic_hint(alloc)?.text(alloc, "help")?)),
-        Verdict::Free(_) => Ok(None),
-    }
-}
-
-// What to tell of a drawing, in which a flow of this name may be asked for.
-fn draw_hint(
-    alloc: Global,
-    name: &str,
-    flow: Option<&str>,
-    network: &Network,
-    found: &DrawFinding,
-) -> Result<Option<String>, AllocError> {
-    match (found, flow) {
-        (DrawFinding::UnknownFlow, Some(flow)) => unknown_flow_text(alloc, name, network, flow),
-        _ => Ok(None),
-    }
-}
-
-// What to tell of an RMAP command of the flow of this name.
-fn rmap_hint(
-    alloc: Global,
-    name: &str,
-    flow: &str,
-    network: &Network,
-    found: &RmapFinding,
-) -> Result<Option<String>, AllocError> {
-    match found {
-        RmapFinding::Fault(RmapFault::UnknownFlow) if network.flow_named(flow).is_none() => {
-            unknown_flow_text(alloc, name, network, flow)
-        }
-        _ => Ok(None),
-    }
-}
-
-// What to tell of what frees a network.
-fn mend_hint(
-    alloc: Global,
-    name: &str,
-    network: &Network,
-    found: &Mending,
-) -> Result<Option<String>, AllocError> {
-    match found {
-        Mending::Misrouted(flow, place, fault) => {
-            misrouted_text(alloc, name, network, *flow, place, *fault)
-        }
-        _ => Ok(None),
-    }
-}
-
-// What to tell of a search for a lock-up.
-fn witness_hint(
-    alloc: Global,
-    name: &str,
-    network: &Network,
-    found: &WitnessFinding,
-) -> Result<Option<String>, AllocError> {
-    match found {
-        WitnessFinding::Misrouted(flow, place, fault) => {
-            misrouted_text(alloc, name, network, *flow, place, *fault)
-        }
-        _ => Ok(None),
-    }
-}
 
 // ---- commands with one network file
 
@@ -193,7 +55,7 @@ fn call_route<R: Files + AllocGlobal, W: Write>(
     } else {
         route_file(rt, file, flow, writer)
     };
-    call_end(alloc, hints, file, end, |network, found| {
+    call_end(alloc, hints, file, end, |network, _text, found| {
         route_hint(alloc, file, flow, network, found)
     })
 }
@@ -215,7 +77,7 @@ fn call_report<R: Files + AllocGlobal, C: VerdictWorkers, W: Write>(
     } else {
         report_file(rt, workers, file, writer)
     };
-    noted_end(alloc, hints, file, end, |_network, _found| Ok(None))
+    noted_end(alloc, hints, file, end, |_network, _text, _found| Ok(None))
 }
 
 fn call_decide<R: Files + AllocGlobal, C: VerdictWorkers, W: Write>(
@@ -227,7 +89,7 @@ fn call_decide<R: Files + AllocGlobal, C: VerdictWorkers, W: Write>(
 ) -> CallEnd {
     let alloc = rt.alloc();
     let end = decide_file(rt, workers, file, writer);
-    noted_end(alloc, hints, file, end, |network, found| {
+    noted_end(alloc, hints, file, end, |network, _text, found| {
         decide_hint(alloc, file, network, found)
     })
 }
@@ -249,7 +111,7 @@ fn call_explain<R: Files + AllocGlobal, C: VerdictWorkers, W: Write>(
         Ok(mut reader) => explain(workers, alloc, &mut reader, all, &Lines, writer),
         Err(_) => CommandEnd::of_unread(),
     };
-    call_end(alloc, hints, file, end, |_network, _found| Ok(None))
+    call_end(alloc, hints, file, end, |_network, _text, _found| Ok(None))
 }
 
 fn call_draw<R: Files + AllocGlobal, C: VerdictWorkers, W: Write>(
@@ -265,7 +127,7 @@ fn call_draw<R: Files + AllocGlobal, C: VerdictWorkers, W: Write>(
         Ok(mut reader) => draw(workers, alloc, &mut reader, options, &Lines, writer),
         Err(_) => CommandEnd::of_unread(),
     };
-    call_end(alloc, hints, file, end, |network, found| {
+    call_end(alloc, hints, file, end, |network, _text, found| {
         draw_hint(alloc, file, options.flow, network, found)
     })
 }
@@ -282,7 +144,7 @@ fn call_rmap<R: Files + AllocGlobal, W: Write>(
         Ok(mut reader) => rmap(alloc, &mut reader, request, &Lines, writer),
         Err(_) => CommandEnd::of_unread(),
     };
-    call_end(alloc, hints, file, end, |network, found| {
+    call_end(alloc, hints, file, end, |network, _text, found| {
         rmap_hint(alloc, file, request.flow, network, found)
     })
 }
@@ -304,7 +166,7 @@ fn call_mend<R: Files + AllocGlobal, C: VerdictWorkers, W: Write>(
         Ok(mut reader) => mend(workers, alloc, &mut reader, pairs, &Lines, writer),
         Err(_) => CommandEnd::of_unread(),
     };
-    call_end(alloc, hints, file, end, |network, found| {
+    call_end(alloc, hints, file, end, |network, _text, found| {
         mend_hint(alloc, file, network, found)
     })
 }
@@ -323,7 +185,7 @@ fn call_margin<R: Files + AllocGlobal, C: VerdictWorkers, W: Write>(
         Ok(mut reader) => margin(workers, alloc, &mut reader, &Lines, writer),
         Err(_) => CommandEnd::of_unread(),
     };
-    call_end(alloc, hints, file, end, |_network, _found| Ok(None))
+    call_end(alloc, hints, file, end, |_network, _text, _found| Ok(None))
 }
 
 fn call_witness<R: Files + AllocGlobal, C: VerdictWorkers, W: Write>(
@@ -340,7 +202,7 @@ fn call_witness<R: Files + AllocGlobal, C: VerdictWorkers, W: Write>(
         Ok(mut reader) => witness(workers, alloc, &mut reader, tries, seed, &Lines, writer),
         Err(_) => CommandEnd::of_unread(),
     };
-    call_end(alloc, hints, file, end, |network, found| {
+    call_end(alloc, hints, file, end, |network, _text, found| {
         witness_hint(alloc, file, network, found)
     })
 }
@@ -351,59 +213,56 @@ fn call_check<R: Files + AllocGlobal, C: VerdictWorkers, W: Write>(
     rt: &R,
     workers: &C,
     hints: Hints,
-    file: &str,
-    certificate: &str,
+    paths: (&str, &str),
     json: bool,
     writer: &mut W,
 ) -> CallEnd {
-    let ended = if json {
-        match opened(rt, file, certificate) {
-            Some((mut network, mut second)) => sw_json_verdicts::check(
-                workers,
-                rt.alloc(),
-                &mut network,
-                &mut second,
-                (file, certificate),
-                RELEASE,
-                writer,
-            ),
-            None => Ended::ReadFailed,
+    let alloc = rt.alloc();
+    let end = if json {
+        match opened(rt, paths.0, paths.1) {
+            Some((mut network, mut certificate)) => {
+                let form = verdict_objects(paths.0, paths.1);
+                check(
+                    workers,
+                    alloc,
+                    &mut network,
+                    &mut certificate,
+                    &form,
+                    writer,
+                )
+            }
+            None => CommandEnd::of_unread(),
         }
     } else {
-        check_files(rt, workers, file, certificate, writer)
+        check_files(rt, workers, paths.0, paths.1, writer)
     };
-    let hint = match hinted_status(hints, ended) {
-        Some(status) => check_hint(rt, workers, file, certificate, status),
-        None => Ok(None),
-    };
-    CallEnd::with_hint(ended, hint)
+    call_end(alloc, hints, paths.0, end, |network, text, found| {
+        check_hint(alloc, paths, network, text, found)
+    })
 }
 
 fn call_replay<R: Files + AllocGlobal, W: Write>(
     rt: &R,
     hints: Hints,
     file: &str,
-    schedule: &str,
+    path: &str,
     json: bool,
     writer: &mut W,
 ) -> CallEnd {
-    let ended = match opened(rt, file, schedule) {
-        Some((mut network, mut second)) if json => replay_object(
-            rt.alloc(),
-            &mut network,
-            &mut second,
-            (file, schedule),
-            RELEASE,
-            writer,
-        ),
-        Some((mut network, mut second)) => { replay(rt.alloc(), &mut network, &mut second, writer) }
-        None => Ended::ReadFailed,
+    let alloc = rt.alloc();
+    let end = match opened(rt, file, path) {
+        Some((mut network, mut schedule)) if json => {
+            let form = objects(file, path);
+            replay(alloc, &mut network, &mut schedule, &form, writer)
+        }
+        Some((mut network, mut schedule)) => {
+            replay(alloc, &mut network, &mut schedule, &Lines, writer)
+        }
+        None => CommandEnd::of_unread(),
     };
-    let hint = match hinted_status(hints, ended) {
-        Some(status) => replay_hint(rt, file, schedule, status),
-        None => Ok(None),
-    };
-    CallEnd::with_hint(ended, hint)
+    call_end(alloc, hints, file, end, |network, text, found| {
+        replay_hint(alloc, path, network, text, found)
+    })
 }
 
 fn call_run<'a, R: Files + Eprint + AllocGlobal + Threads + Wait + Sync, W: Write>(
@@ -414,12 +273,15 @@ fn call_run<'a, R: Files + Eprint + AllocGlobal + Threads + Wait + Sync, W: Writ
 ) -> CallEnd
     requires { 0 < job.now.workers }
 {
-    let ended = run_load(rt, job, writer);
-    let hint = match hinted_status(hints, ended) {
-        Some(status) => run_hint(rt, job.network, job.load, status),
-        None => Ok(None),
-    };
-    CallEnd::with_hint(ended, hint)
+    if is_schedule_read(rt, job) {
+        return CallEnd::bare(tell_refused(rt, "--schedule names a file that is read"));
+    }
+    let alloc = rt.alloc();
+    let end = run_load(rt, job, writer);
+    tell_besides(rt, &end);
+    call_end(alloc, hints, job.network, end, |network, text, found| {
+        run_hint(alloc, job.load, network, text, found)
+    })
 }
 
 fn call_migrate<R: Files + AllocGlobal, W: Write>(
@@ -428,12 +290,8 @@ fn call_migrate<R: Files + AllocGlobal, W: Write>(
     file: &str,
     writer: &mut W,
 ) -> CallEnd {
-    let ended = migrate_file(rt, file, writer);
-    let hint = match hinted_status(hints, ended) {
-        Some(status) => migrate_hint(rt, file, status),
-        None => Ok(None),
-    };
-    CallEnd::with_hint(ended, hint)
+    let end = migrate_file(rt, file, writer);
+    faulty_end(rt.alloc(), hints, file, end.ended, &end.faulty)
 }
 
 // An audit of these files.
@@ -461,7 +319,7 @@ fn run_audit<R: AllocGlobal + Threads + Sync, C: VerdictWorkers, W: Write>(
 }
 
 // The object of `decide` is an audit's of one file.
-fn call_decide_object<R: Files + AllocGlobal + Threads + Sync, C: VerdictWorkers, W: Write>(
+fn call_decide_object<R: Files + AllocGlobal, C: VerdictWorkers, W: Write>(
     rt: &R,
     workers: &C,
     host: &HostRuntime,
@@ -469,12 +327,18 @@ fn call_decide_object<R: Files + AllocGlobal + Threads + Sync, C: VerdictWorkers
     file: &str,
     writer: &mut W,
 ) -> CallEnd {
-    let ended = run_audit(rt, workers, host, &[file], true, false, None, writer);
-    let hint = match hinted_status(hints, ended) {
-        Some(status) => decide_hint_again(rt, workers, file, status),
-        None => Ok(None),
+    let options = AuditOptions {
+        json: true,
+        quiet: false,
+        certificates: false,
+        release: RELEASE,
     };
-    CallEnd::with_hint(ended, hint)
+    let disk = Disk { host, folder: "" };
+    let alloc = rt.alloc();
+    let end = audit_one(workers, alloc, &disk, file, &options, writer);
+    call_end(alloc, hints, file, end, |network, _text, found| {
+        decide_hint(alloc, file, network, found)
+    })
 }
 
 /// Does what the call asks for; `files` are those of an audit. `host` is the same as `rt`, by its own type: an audit has its files from it.
@@ -505,7 +369,7 @@ pub(crate) fn run_call<
             file,
             certificate,
             json,
-        } => call_check(rt, workers, hints, file, certificate, json, writer),
+        } => call_check(rt, workers, hints, (file, certificate), json, writer),
         Call::Replay {
             file,
             schedule,

@@ -88,8 +88,8 @@ fn tell_more<R: Files + Eprint + AllocGlobal>(
         (Hints::Auto, Ended::ReadFailed) => tell_unread_files(rt, call),
         (Hints::Auto, Ended::WriteFailed) => tell_failed(rt, unwritten),
         _ => {
-            tell_text(rt, end.hint);
-            tell_text(rt, end.notes);
+            tell_text(rt, end.hint.as_deref());
+            tell_text(rt, end.notes.as_deref());
         }
     }
     ended

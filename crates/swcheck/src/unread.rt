@@ -91,6 +91,7 @@ pub(crate) fn unread<'a, R: Files>(rt: &R, path: &'a str) -> Option<Failed<'a>> 
 /// Tells what could not be read or written, and why, as far as that is known.
 pub(crate) fn tell_failed<R: Eprint + AllocGlobal>(rt: &R, failed: Option<Failed<'_>>) {
     if let Some(failed) = failed {
-        tell_text(rt, unread_text(rt.alloc(), failed.path, failed.kind).ok());
+        let text = unread_text(rt.alloc(), failed.path, failed.kind).ok();
+        tell_text(rt, text.as_deref());
     }
 }

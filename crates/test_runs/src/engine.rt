@@ -5,6 +5,7 @@ use crate::work::no_text;
 use std::io;
 use std::sync::Wait;
 use std::thread::Threads;
+use sw_engine::Lines;
 use sw_runs::{Options, run};
 use sw_text::Ended;
 
@@ -23,16 +24,17 @@ pub(crate) fn show_engine<R: Threads + Wait + Sync>(
 ) -> io::Result<()> {
     let gate = Together::new(false);
     let mut writer = io::writer(rt);
-    let ended = run(
+    let end = run(
         threads,
         rt.alloc(),
         &mut network,
         &mut load,
         OPTIONS,
+        &Lines,
         &mut writer,
         &gate,
     );
-    let Ended::Status(status) = ended else {
+    let Ended::Status(status) = end.into_ended() else {
         return Err(no_text());
     };
     let (late, all) = (gate.is_late(), gate.have_all_come());

@@ -20,4 +20,5 @@ returns g c =
       ended = ends_by_file Finds _ _ _ _ _ _ _ _ file c.match-network.found _ c.read_network_file-file.ensures holds c.tell_found-ended.ensures;
       read = c.read_network_file-file.ensures;
       found = holds;
+      told = c.tell_found-ended.ensures;
     }

@@ -2,8 +2,8 @@ use Rattle.std.proofs.Common.{None}
 use Rattle.std.proofs.KnownBytes.{Keeps-refl}
 use Rattle.sw_calls.proofs.files.migrate_file.Goals as goal
 
-pub returns-in_default : goal.returns-in_default
-returns-in_default g c = (None, None, Keeps-refl _)
+pub returns-in_default-clause-read : goal.returns-in_default-clause-read
+returns-in_default-clause-read g c = rw c.bare.ensures.ended (None, None, Keeps-refl _)
 
-pub returns : goal.returns
-returns g c = (_, _, c.migrate.ensures)
+pub returns-clause-read : goal.returns-clause-read
+returns-clause-read g c = (_, _, c.migrate.ensures.ended)

@@ -1,9 +1,7 @@
-use Rattle.std.proofs.lemmas.Result.{err_from_is_err_and}
 use Rattle.toml.specs.View.{table_view}
 use Rattle.sw_file.proofs.WholeMigration.{version_refused}
 use Rattle.sw_file.proofs.migration.admit.Goals as goal
 
-pub returns-in_err-declared_version : goal.returns-in_err-declared_version
-returns-in_err-declared_version c =
-    let p = err_from_is_err_and c.from_residual-in_err-declared_version.result c.from_residual-in_err-declared_version.ensures.1 in
-    rw (p.1, p.2) (version_refused (table_view c.args.table.now) c.in_err-declared_version.field-0.0 c.in_err-declared_version.ensures)
+pub returns-in-Err-declared_version : goal.returns-in-Err-declared_version
+returns-in-Err-declared_version c =
+    rw c.refusal-in-Err-declared_version.ensures (version_refused (table_view c.args.table.now) c.in-Err-declared_version.fault c.in-Err-declared_version.ensures)

@@ -18,9 +18,13 @@ returns c =
     let ends = subst (λ (l : List Step). EndsFromEmpty v.declared l o w) c.entries.ensures c.in_ok-outcome.ensures.ends in
     let same = ap (λ (d : Declaration). length d.nodes) c.network.ensures.network in
     let is : c.loop-n.n ≡ length w.declared.nodes = omega (arith, same, c.loop-n-test.false, c.loop-n.auto.n-end, c.nodes-n-end.ensures.count) in
-    replayed v.declared w c.args.schedule.now o _ c.in_ok-outcome.ensures.network ends refl (λ s at.
     record {
-      counted = c.undelivered-undelivered.ensures s at;
-      locked_up = c.is_locked_up.ensures s at;
-      outputs = all_outputs w c.loop-n.n c.loop-n.came_out.items is c.loop-n.invariant s at;
-    })
+      replayed = replayed v.declared w c.args.schedule.now o _ c.in_ok-outcome.ensures.network ends refl (λ s at.
+          record {
+            counted = c.undelivered-undelivered.ensures s at;
+            locked_up = c.is_locked_up.ensures s at;
+            outputs = all_outputs w c.loop-n.n c.loop-n.came_out.items is c.loop-n.invariant s at;
+          });
+      network = c.in_ok-outcome.ensures.network;
+      ends = ends;
+    }

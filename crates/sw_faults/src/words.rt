@@ -1,0 +1,176 @@
+//! What is wrong, what would be right, and what to do, in words.
+use crate::entries::text_of;
+use crate::key_words::{is_one_of, key_texts, keys_of, value_words, words_version};
+use crate::made::Made;
+use crate::names::{add_names, names_of};
+use crate::nearest::meant_help;
+use std::alloc::{AllocError, Global};
+use sw_text::{Key, KeyFault, Section, TextFault, Version, fault_text};
+use sw_topo::{Limit, TopoFault};
+use toml::Table;
+
+/// What is said of a fault, as far as that hangs on nothing else in the text.
+#[derive(Clone, Copy)]
+struct Words {
+    wrong: &'static str,
+    right: &'static str,
+    help: &'static str,
+}
+
+fn words_of(fault: &TextFault) -> Words {
+    let (wrong, right, help) = match fault {
+        TextFault::Syntax => ("the text is no TOML", "a TOML 1.1 text", ""),
+        TextFault::UnknownKey(_, _) => ("a table has no such key", "", ""),
+        TextFault::Key(KeyFault::MissingKey, _, _) => (
+            "a key is missing here",
+            "",
+            "a key belongs to the header or the brace that stands above it last",
+        ),
+        TextFault::Key(KeyFault::WrongType, _, _) => (
+            "the value is of another type",
+            "",
+            "a text stands in quotes, a number and true or false do not; a list stands in [ ], a table in { }",
+        ),
+        TextFault::Key(KeyFault::OutOfRange, _, _) => ("the value is not allowed", "", ""),
+        TextFault::Key(KeyFault::DuplicateName, _, _) => (
+            "the name is taken",
+            "",
+            "nodes and switches share one set of names; flows have their own",
+        ),
+        TextFault::Key(KeyFault::UnknownName, _, _) => ("there is no such name", "", ""),
+        TextFault::Topology(TopoFault::TooMany(limit)) => (
+            "the list is too long",
+            match limit {
+                Limit::Nodes => "at most 1024 nodes",
+                Limit::Switches => "at most 512 switches",
+                Limit::Links => "at most 1024 links",
+            },
+            "split the network where no flow goes over the cut",
+        ),
+        TextFault::Topology(TopoFault::PortTaken(_)) => (
+            "an end of the link is at a port that has a link already",
+            "at most one link at each port of a switch",
+            "each end of a link needs a port of its own",
+        ),
+        TextFault::Topology(TopoFault::NodeLinks(_)) => (
+            "the node has no link, or several",
+            "exactly one link for each node",
+            "several links: several nodes, or a switch in front of one",
+        ),
+        TextFault::Topology(TopoFault::PortUnlinked(_)) => (
+            "the switch has no link",
+            "a link at one port of each switch at least",
+            "link the switch, or leave it out",
+        ),
+        TextFault::DuplicateRoute(_, _) => (
+            "an entry before it is for one of the same addresses",
+            "one entry at most for each address of a switch",
+            "several ports for one address stand in one entry's 'ports'",
+        ),
+        TextFault::ReplyShape(_) => (
+            "the replies can't come back",
+            "a path of at most 12 numbers, the first not 0; an initiator from 32 to 254; 'to' a node with a target",
+            "a reply begins with its path and then the initiator, and comes from a target",
+        ),
+        TextFault::NotInFlow(_) => (
+            "the flow doesn't declare this packet",
+            "no command that the target would answer, or one whose reply goes where the flow's 'reply' says",
+            "give the flow a 'reply' as the command's reply address and initiator say, or change the command",
+        ),
+    };
+    Words { wrong, right, help }
+}
+
+/// The fault as it is printed, and in words.
+pub(crate) fn what_text(alloc: Global, fault: &TextFault) -> Made<String> {
+    let text = fault_text(alloc, fault)?;
+    format!(in alloc; "{text}: {}", words_of(fault).wrong)
+}
+
+/// What would be right, by the words of this version.
+///
+/// # Errors
+///
+/// There is no memory for the text.
+pub fn expected_text(
+    alloc: Global,
+    version: Version,
+    fault: &TextFault,
+) -> Result<String, AllocError> {
+    match fault {
+        TextFault::UnknownKey(section, _) => {
+            let keys = key_texts(alloc, keys_of(version, *section))?;
+            format!(in alloc; "one of {}", keys.join(alloc, ", ")?)
+        }
+        TextFault::Key(KeyFault::MissingKey, section, key) => {
+            let words = value_words(version, *section, *key);
+            format!(in alloc; "{} = {words}", key.text())
+        }
+        TextFault::Key(_, section, key) => {
+            String::from_str(alloc, value_words(version, *section, *key))
+        }
+        fault => String::from_str(alloc, words_of(fault).right),
+    }
+}
+
+// Has the table this key from this version on, and not in the one before it?
+fn is_new_key(before: Version, version: Version, section: Section, name: &str) -> bool {
+    is_one_of(keys_of(version, section), name) && !is_one_of(keys_of(before, section), name)
+}
+
+// What to do about a key that a table may not have.
+fn key_help(alloc: Global, version: Version, section: Section, name: &str) -> Made<String> {
+    let keys = keys_of(version, section);
+    let outer = match section {
+        Section::Packet(_) => &[Key::Packet],
+        _ => keys_of(version, Section::Document),
+    };
+    let words = if is_new_key(Version::One, Version::Two, section, name) {
+        "this key is there from version 2 on: write version = 2"
+    } else if is_new_key(Version::Two, Version::Three, section, name) {
+        "this key is there from version 3 on: write version = 3"
+    } else if is_one_of(keys, name) {
+        "a node has no ports: this key stands beside the name of a switch"
+    } else if is_one_of(outer, name) {
+        "a key that stands below a header, as [[switch]], belongs to that table: write it above the first header"
+    } else {
+        return meant_help(alloc, name, &key_texts(alloc, keys)?);
+    };
+    String::from_str(alloc, words)
+}
+
+// What to do about the name at this key, which no node has, and where the key is an end of a link no switch either.
+fn name_help(alloc: Global, document: &Table, section: Section, key: Key) -> Made<String> {
+    let Some(name) = text_of(document, section, key) else {
+        return Ok(String::new(alloc));
+    };
+    let mut names = names_of(alloc, document, Key::Node)?;
+    match key {
+        Key::A | Key::B => add_names(alloc, document, Key::Switch, &mut names)?,
+        Key::From | Key::To => {
+            if names_of(alloc, document, Key::Switch)?.contains(&name) {
+                return format!(in alloc; "'{name}' is a switch: flows go from a node to a node");
+            }
+        }
+        _ => return Ok(String::new(alloc)),
+    }
+    meant_help(alloc, name, &names)
+}
+
+/// What to do about a fault of the text of this document; nothing where there is no more to say.
+///
+/// # Errors
+///
+/// There is no memory for the text.
+pub fn help_text(alloc: Global, document: &Table, fault: &TextFault) -> Result<String, AllocError> {
+    match fault {
+        TextFault::UnknownKey(section, name) => {
+            let version = words_version(alloc, document)?;
+            key_help(alloc, version, *section, name.as_str())
+        }
+        TextFault::Key(KeyFault::UnknownName, section, key) => {
+            name_help(alloc, document, *section, *key)
+        }
+        fault => String::from_str(alloc, words_of(fault).help),
+    }
+}

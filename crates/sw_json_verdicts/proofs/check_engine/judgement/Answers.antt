@@ -1,9 +1,0 @@
-use Rattle.std.proofs.Common.{arith, codes}
-use Rattle.sw_json.proofs.PlainAnswers.{flat_of, whole_of}
-use Rattle.sw_json_verdicts.proofs.check_engine.judgement.Goals as goal
-
-pub invariant_of-result : goal.invariant_of-result
-invariant_of-result g c = record {
-  whole = whole_of 1 _ _ c.in_ok-result-in-Ok.ensures (c.kinds_are_plain.ensures (codes "accepted"));
-  flat = flat_of 1 _ _ (omega arith) c.in_ok-result-in-Ok.ensures (c.kinds_are_plain.ensures (codes "accepted"));
-}

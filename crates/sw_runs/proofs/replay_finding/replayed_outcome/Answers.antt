@@ -1,0 +1,16 @@
+use Rattle.std.proofs.Common.{arith}
+use Rattle.serde_json.specs.View.{view}
+use Rattle.sw_json.proofs.PlainAnswers.{flat_of, whole_of}
+use Rattle.sw_schedule.specs.Reports.{report_of}
+use Rattle.sw_runs.proofs.ReplayPlain.{replay_plain}
+use Rattle.sw_runs.specs.ReplayValues.{replay_value}
+use Rattle.sw_runs.proofs.replay_finding.replayed_outcome.Goals as goal
+
+pub invariant_of-result : goal.invariant_of-result
+invariant_of-result c =
+    let d = c.args.network.now in
+    let r = report_of c.args.replayed.now in
+    record {
+      whole = whole_of 5 (view c.in_ok-result.result) (replay_value d r) c.in_ok-result.ensures (replay_plain d r);
+      flat = flat_of 5 (view c.in_ok-result.result) (replay_value d r) (omega arith) c.in_ok-result.ensures (replay_plain d r);
+    }

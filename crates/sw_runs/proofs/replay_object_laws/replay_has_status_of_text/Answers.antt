@@ -1,5 +1,0 @@
-use Rattle.sw_runs.proofs.StatusOfReplay.{replay_has_status_of_text}
-use Rattle.sw_runs.proofs.replay_object_laws.replay_has_status_of_text.Goals as goal
-
-pub returns : goal.returns
-returns c = replay_has_status_of_text

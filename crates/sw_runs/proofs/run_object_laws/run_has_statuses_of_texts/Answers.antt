@@ -1,5 +1,0 @@
-use Rattle.sw_runs.proofs.StatusesOfRuns.{run_has_statuses_of_texts}
-use Rattle.sw_runs.proofs.run_object_laws.run_has_statuses_of_texts.Goals as goal
-
-pub returns : goal.returns
-returns c = run_has_statuses_of_texts
