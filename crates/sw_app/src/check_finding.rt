@@ -124,11 +124,5 @@ pub fn check<T: VerdictWorkers, N: Read, C: Read, F: Form<CheckFinding>, W: Writ
         Some(network) => Some(find(workers, alloc, network, text)),
         None => None,
     };
-    let ended = tell_found(form, alloc, &file, text, &found, writer);
-    CommandEnd {
-        ended,
-        file,
-        second,
-        found,
-    }
+    tell_found(alloc, file, second, found, form, writer)
 }

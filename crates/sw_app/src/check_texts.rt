@@ -83,7 +83,7 @@ pub fn refusal_words(
     }
 }
 
-// The words with the end of a line.
+/// The words with the end of a line.
 fn line_of(words: String) -> Result<String, AllocError>
     ensures { IfOk result (λ s. string_bytes s ≡ line (string_bytes words ∷ [])) }
 {

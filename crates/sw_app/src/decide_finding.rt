@@ -82,11 +82,5 @@ pub fn decide<T: VerdictWorkers, R: Read, W: Write>(
         Some(network) => Some(find_verdict(workers, alloc, network)),
         None => None,
     };
-    let ended = tell_found(&Lines, alloc, &file, None, &found, writer);
-    CommandEnd {
-        ended,
-        file,
-        second: None,
-        found,
-    }
+    tell_found(alloc, file, None, found, &Lines, writer)
 }

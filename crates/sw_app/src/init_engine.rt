@@ -11,5 +11,5 @@ use sw_text::{Ended, tell};
 pub fn init<W: Write>(sample: Sample, writer: &mut W) -> Ended
     ensures { IsTold (W.contents writer.old) (W.contents writer.new) (sample_text sample) 0 result }
 {
-    tell(writer, sample_text(sample), GOOD)
+    tell(sample_text(sample), GOOD, writer)
 }

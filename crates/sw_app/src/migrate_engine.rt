@@ -34,7 +34,7 @@ impl MigrateEnd {
     ghost use Rattle.std.specs.Prelude.{None};
 
     /// The end of a call that has no such text.
-    pub fn bare(ended: Ended) -> MigrateEnd
+    pub fn from_ended(ended: Ended) -> MigrateEnd
         ensures ended { result.ended ≡ ended }
         ensures faulty { result.faulty ≡ None }
     {
@@ -91,15 +91,15 @@ pub fn migrate<R: Read, W: Write>(alloc: Global, reader: &mut R, writer: &mut W)
 {
     let text = match read_whole(alloc, reader, MAX_TEXT) {
         Ok(text) => text,
-        Err(error) => return MigrateEnd::bare(tell_unread(writer, error)),
+        Err(error) => return MigrateEnd::from_ended(tell_unread(error, writer)),
     };
     let (answer, fault) = migrate_answer(alloc, &text);
-    let ended = tell_answer(writer, answer);
+    let ended = tell_answer(answer, writer);
     match fault {
         Some(fault) => MigrateEnd {
             ended,
             faulty: Some(FaultyText { text, fault }),
         },
-        None => MigrateEnd::bare(ended),
+        None => MigrateEnd::from_ended(ended),
     }
 }

@@ -48,7 +48,7 @@ impl AsLines for ReportFinding {
     }
 }
 
-// What is found of a network.
+/// What is found of a network.
 fn find<T: VerdictWorkers>(
     workers: &T,
     alloc: Global,
@@ -79,11 +79,5 @@ pub fn report<T: VerdictWorkers, R: Read, F: Form<ReportFinding>, W: Write>(
         Some(network) => Some(find(workers, alloc, network)),
         None => None,
     };
-    let ended = tell_found(form, alloc, &file, None, &found, writer);
-    CommandEnd {
-        ended,
-        file,
-        second: None,
-        found,
-    }
+    tell_found(alloc, file, None, found, form, writer)
 }

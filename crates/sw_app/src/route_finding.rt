@@ -67,7 +67,7 @@ impl AsLines for RouteFinding {
 }
 
 impl RouteFinding {
-    // The flow with its places, or that no flow has the name.
+    /// The flow with its places, or that no flow has the name.
     fn text(&self, alloc: Global, network: &Network) -> Result<String, AllocError>
         requires { IsRouteOf network.now self.now }
         ensures { IfOk result (λ text. string_bytes text ≡ route_lines network.now self.now) }
@@ -83,7 +83,7 @@ impl RouteFinding {
     }
 }
 
-// What is found of a network.
+/// What is found of a network.
 fn find(alloc: Global, network: &Network, name: &str) -> Result<RouteFinding, AllocError>
     ensures { IfOk result (IsRouteFinding name.now network.now) }
 {
@@ -119,11 +119,5 @@ pub fn route<R: Read, F: Form<RouteFinding>, W: Write>(
         Some(network) => Some(find(alloc, network, flow)),
         None => None,
     };
-    let ended = tell_found(form, alloc, &file, None, &found, writer);
-    CommandEnd {
-        ended,
-        file,
-        second: None,
-        found,
-    }
+    tell_found(alloc, file, None, found, form, writer)
 }

@@ -9,7 +9,7 @@ use sw_config::Network;
 use sw_flow::{Place, RouteFault};
 use sw_output::{channel_text, route_fault_text};
 
-// Adds the line of a place.
+/// Adds the line of a place.
 fn add_place(
     alloc: Global,
     network: &Network,
@@ -25,7 +25,7 @@ fn add_place(
     write!(text, "place {channel} {deleted} {ends}\n")
 }
 
-// Adds the last line: `routed`, or the place with a fault.
+/// Adds the last line: `routed`, or the place with a fault.
 fn add_outcome(fault: Option<(Place, RouteFault)>, text: &mut String) -> Result<(), AllocError>
     ensures { IfOk result (λ _. string_bytes text.new ≡ string_bytes text.old ++ outcome_line fault) }
 {

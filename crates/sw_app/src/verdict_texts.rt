@@ -10,7 +10,7 @@ use sw_config::Network;
 use sw_output::{cycle_text, cyclic_words, free_words, misrouted_text, misrouted_words};
 use sw_search::Verdict;
 
-// Numbers of 16 bits have a place in a certificate's text: the proof reads their range here.
+/// Numbers of 16 bits have a place in a certificate's text: the proof reads their range here.
 fn have_text(numbers: &[u16])
     ensures { AllByRecursion (λ v. v ≤ 65535) numbers.now }
 {}

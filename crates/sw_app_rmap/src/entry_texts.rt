@@ -17,7 +17,7 @@ use sw_load::laws::cargo_is_read;
 use sw_text::Key;
 use toml::{Table, Value};
 
-// The table of one key.
+/// The table of one key.
 fn one_member(alloc: Global, key: Key, value: Value) -> Result<Table, AllocError>
     ensures { IfOk result (λ t. table_view t ≡ member (key_text key) (view value) no_members) }
 {
@@ -27,7 +27,7 @@ fn one_member(alloc: Global, key: Key, value: Value) -> Result<Table, AllocError
     Ok(table)
 }
 
-// The flow's name and the cargo.
+/// The flow's name and the cargo.
 fn entry_table(alloc: Global, name: &str, cargo: &[u8]) -> Result<Table, AllocError>
     ensures { IfOk result (λ t. table_view t ≡ entry_table name.now cargo.now) }
 {
@@ -39,7 +39,7 @@ fn entry_table(alloc: Global, name: &str, cargo: &[u8]) -> Result<Table, AllocEr
     Ok(table)
 }
 
-// The table as the one element of an array.
+/// The table as the one element of an array.
 fn one_item(alloc: Global, only: Table) -> Result<Value, AllocError>
     ensures { IfOk result (λ v. view v ≡ array (item (table (table_view only)) no_items)) }
 {

@@ -11,7 +11,7 @@ use sw_rmap::{Command, Instruction, TargetConfig, write_command};
 /// The initiator logical address that stands for none.
 const NO_INITIATOR: u8 = 254;
 
-// The path back; none where the flow has no replies.
+/// The path back; none where the flow has no replies.
 fn path_back(reply: Option<&Reply>) -> &[u8]
     ensures { result.now ≡ path_back (option_map (λ r. r.now) reply.entry) }
 {
@@ -30,7 +30,7 @@ fn initiator_of(reply: Option<&Reply>) -> u8
     }
 }
 
-// How many units of four bytes hold the path.
+/// How many units of four bytes hold the path.
 fn units(path: &[u8]) -> usize
     requires { length path.now ≤ 12 }
     ensures value { result ≡ units path.now }
@@ -39,8 +39,8 @@ fn units(path: &[u8]) -> usize
     (path.len() + 3) / 4
 }
 
-// The path behind zeros that fill up its units.
-fn padded(alloc: Global, path: &[u8]) -> Result<Vec<u8>, AllocError>
+/// The path behind zeros that fill up its units.
+fn pad(alloc: Global, path: &[u8]) -> Result<Vec<u8>, AllocError>
     requires { length path.now ≤ 12 }
     ensures { IfOk result (λ v. v.items ≡ padded path.now) }
 {
@@ -65,7 +65,7 @@ pub(crate) fn bytes_to(
     ensures { IfOk result (λ v. v.items ≡ bytes_to target (option_map (λ r. r.now) reply.entry) (order_view order.now)) }
 {
     let path = path_back(reply);
-    let reply_address = padded(alloc, path)?;
+    let reply_address = pad(alloc, path)?;
     let action = &order.action;
     let instruction = Instruction::incrementing(
         action.is_write(),

@@ -71,7 +71,7 @@ impl Action {
     }
 }
 
-// What stands for the action: a length of at most 24 bits, or 1 to 4,096 bytes as hexadecimal pairs.
+/// What stands for the action: a length of at most 24 bits, or 1 to 4,096 bytes as hexadecimal pairs.
 #[tactic(auto, unfolding(crate::specs::Orders::action_of))]
 fn action_of(alloc: Global, access: &Access<'_>) -> Result<Action, OrMemory<RmapFault>>
     ensures { Gives action_view result (action_of access.now) }
@@ -88,7 +88,7 @@ fn action_of(alloc: Global, access: &Access<'_>) -> Result<Action, OrMemory<Rmap
     }
 }
 
-// The transaction identifier; 0 where none is given.
+/// The transaction identifier; 0 where none is given.
 fn transaction_of(word: Option<&str>) -> Option<u16>
     ensures { result ≡ transaction_of (option_map (λ w. w.now) word.entry) }
 {

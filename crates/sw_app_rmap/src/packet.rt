@@ -50,7 +50,7 @@ fn begins_with(left: &[u8], bytes: &[u8]) -> bool
     bytes.starts_with(left) && left.len() < bytes.len()
 }
 
-// What follows the address bytes that are left.
+/// What follows the address bytes that are left.
 fn behind_left(alloc: Global, left: &[u8], bytes: &[u8]) -> Result<Vec<u8>, OrMemory<RmapFault>>
     ensures { Gives (λ v. v.items) result (behind_left left.now bytes.now) }
 {
@@ -85,7 +85,7 @@ fn cargo_to(
     behind_left(alloc, left_bytes(flow), &bytes)
 }
 
-// The same where the flow is limited, or is not.
+/// The same where the flow is limited, or is not.
 fn cargo_where(
     alloc: Global,
     limited: bool,

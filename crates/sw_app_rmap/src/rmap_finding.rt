@@ -57,7 +57,7 @@ fn fault_text(alloc: Global, fault: RmapFault) -> Result<String, AllocError>
     format!(in alloc; "fault {words}\n")
 }
 
-// What is found of a network.
+/// What is found of a network.
 fn find(alloc: Global, network: &Network, request: &Request<'_>) -> Result<RmapFinding, AllocError>
     ensures { IfOk result (IsRmapFinding request.now network.now) }
 {
@@ -92,11 +92,5 @@ pub fn rmap<R: Read, F: Form<RmapFinding>, W: Write>(
         Some(network) => Some(find(alloc, network, request)),
         None => None,
     };
-    let ended = tell_found(form, alloc, &file, None, &found, writer);
-    CommandEnd {
-        ended,
-        file,
-        second: None,
-        found,
-    }
+    tell_found(alloc, file, None, found, form, writer)
 }

@@ -2,7 +2,7 @@
 ghost use Rattle.std.specs.Prelude.{◌≡◌, ◌≤◌, ◌<◌, ◌^◌, IfSome};
 ghost use Rattle.sw_app_rmap.specs.Words.{digits_of, number_of};
 
-// The number up to the limit that digits of this base write, one at least.
+/// The number up to the limit that digits of this base write, one at least.
 fn digits_of(digits: &[u8], base: u32, limit: u64) -> Option<u64>
     requires low { 2 ≤ base }
     requires high { base ≤ 36 }

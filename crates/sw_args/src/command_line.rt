@@ -11,25 +11,25 @@ use clap::error::ErrorKind;
 use clap::{ArgMatches, Command};
 use std::alloc::Global;
 
-// The most threads that `run` may be asked for.
+/// The most threads that `run` may be asked for.
 const MOST_WORKERS: u32 = 64;
 
-// The most steps that `run` may be asked for.
+/// The most steps that `run` may be asked for.
 const MOST_STEPS: u32 = 16_777_216;
 
-// The most tries of a search.
+/// The most tries of a search.
 const MOST_TRIES: u32 = 1_000_000;
 
-// The greatest number that a search may begin with.
+/// The greatest number that a search may begin with.
 const MOST_SEED: u32 = 4_294_967_295;
 
-// A network file, which must be given.
+/// A network file, which must be given.
 const FILE: CommandPart = ("FILE", Takes::Value, "A network file");
 
-// The answer as an object of JSON.
+/// The answer as an object of JSON.
 const JSON: CommandPart = ("json", Takes::Flag, "Print the answer as one JSON object");
 
-// The subcommands, each by itself: what a table costs to prove grows faster than the square of its rows.
+/// The subcommands, each by itself: what a table costs to prove grows faster than the square of its rows.
 const ROUTE: &Subcommand = &Subcommand {
     name: "route",
     about: "Print the places of a flow, and whether packets arrive rightly",
@@ -241,7 +241,7 @@ const INIT: &Subcommand = &Subcommand {
     parts: &[("NAME", Takes::Optional, "The name of a sample")],
 };
 
-// The subcommand at a place of the help.
+/// The subcommand at a place of the help.
 fn subcommand_at(place: usize) -> Option<&'static Subcommand>
     ensures { option_map (λ row. subcommand_app row.now) result ≡ slice_get subcommand_apps place }
 {
@@ -294,7 +294,7 @@ pub(crate) fn found_in<'a>(
     command.try_get_matches_from(words)
 }
 
-// How an error of clap's is told. That of a growth that was refused is told as any other such.
+/// How an error of clap's is told. That of a growth that was refused is told as any other such.
 pub(crate) fn fault_of(alloc: Global, error: &clap::Error) -> WordsFault
     ensures { IsToldAs (kind_of error.now) result }
 {

@@ -6,31 +6,31 @@ ghost use Rattle.sw_args.specs.CommandLine.{Gives, HasCall, IsCallOf, IsMatched,
 
 use crate::call::{Asked, Call, WordsFault};
 use crate::command_line::{fault_of, found_in};
-use crate::values::{given, is_set, number_of, value_of};
+use crate::values::{first_value, is_set, number_of, value_of};
 use clap::ArgMatches;
 use std::alloc::Global;
 
-// The call of a subcommand that wants a file and a value beside it, or a file alone. clap gives each value that the subcommand requires.
+/// The call of a subcommand that wants a file and a value beside it, or a file alone. clap gives each value that the subcommand requires.
 fn file_call<'a>(name: &str, values: &ArgMatches<'a>) -> Call<'a>
     requires called { HasCall name.now (rows_of (found_of values.now)) }
     requires other { IsOther name.now }
     ensures { IsCallOf name.now (rows_of (found_of values.now)) result }
 {
-    let file = given(values, "FILE");
+    let file = first_value(values, "FILE");
     let json = is_set(values, "json");
     match name {
         "route" => {
-            let flow = given(values, "FLOW");
+            let flow = first_value(values, "FLOW");
             Call::Route { file, flow, json }
         }
         "check" => Call::Check {
             file,
-            certificate: given(values, "CERT"),
+            certificate: first_value(values, "CERT"),
             json,
         },
         "replay" => Call::Replay {
             file,
-            schedule: given(values, "SCHEDULE"),
+            schedule: first_value(values, "SCHEDULE"),
             json,
         },
         "decide" => Call::Decide { file, json },
@@ -57,7 +57,7 @@ fn file_call<'a>(name: &str, values: &ArgMatches<'a>) -> Call<'a>
     }
 }
 
-// The call of a subcommand.
+/// The call of a subcommand.
 fn call_of<'a>(name: &str, values: &ArgMatches<'a>) -> Call<'a>
     requires { HasCall name.now (rows_of (found_of values.now)) }
     ensures { IsCallOf name.now (rows_of (found_of values.now)) result }
@@ -72,8 +72,8 @@ fn call_of<'a>(name: &str, values: &ArgMatches<'a>) -> Call<'a>
             name: value_of(values, "NAME"),
         },
         "run" => Call::Run {
-            file: given(values, "FILE"),
-            load: given(values, "LOAD"),
+            file: first_value(values, "FILE"),
+            load: first_value(values, "LOAD"),
             workers: number_of(values, "workers"),
             limit: number_of(values, "limit"),
             schedule: value_of(values, "schedule"),
@@ -81,16 +81,16 @@ fn call_of<'a>(name: &str, values: &ArgMatches<'a>) -> Call<'a>
             json: is_set(values, "json"),
         },
         "rmap" => Call::Rmap {
-            file: given(values, "FILE"),
-            flow: given(values, "FLOW"),
-            action: given(values, "ACTION"),
-            address: given(values, "ADDRESS"),
-            value: given(values, "VALUE"),
+            file: first_value(values, "FILE"),
+            flow: first_value(values, "FLOW"),
+            action: first_value(values, "ACTION"),
+            address: first_value(values, "ADDRESS"),
+            value: first_value(values, "VALUE"),
             unacknowledged: is_set(values, "no-ack"),
             transaction: value_of(values, "transaction"),
         },
         "witness" => Call::Witness {
-            file: given(values, "FILE"),
+            file: first_value(values, "FILE"),
             tries: number_of(values, "tries"),
             seed: number_of(values, "seed"),
         },
@@ -98,7 +98,7 @@ fn call_of<'a>(name: &str, values: &ArgMatches<'a>) -> Call<'a>
     }
 }
 
-// The call of the subcommand that was met, with the files that its values name, and what was given at `--hints`.
+/// The call of the subcommand that was met, with the files that its values name, and what was given at `--hints`.
 fn asked_of<'a>(alloc: Global, matches: &ArgMatches<'a>) -> Result<Asked<'a>, WordsFault>
     requires { MeetsCall (subcommand_rows_of matches.now) }
     ensures asked { IfOk result (IsMatched (subcommand_rows_of matches.now)) }

@@ -37,21 +37,21 @@ pub(crate) struct Subcommand {
     pub parts: &'static [CommandPart],
 }
 
-// Whether to tell how a network file is mended.
+/// Whether to tell how a network file is mended.
 const HINTS: CommandPart = (
     "hints",
     Takes::Text,
     "auto: tell on standard error how to mend a network file; never: do not",
 );
 
-// A number from 1 up to the most.
+/// A number from 1 up to the most.
 fn count_parser<'a>(most: u32) -> ValueParser<'a>
     ensures { result ≡ Signed (pos 1) (pos most) }
 {
     clap::value_parser!(u32).range(1..=i64::from(most))
 }
 
-// The argument that the part is.
+/// The argument that the part is.
 fn arg_of<'a>(alloc: Global, part: CommandPart) -> Arg<'a>
     ensures { (rule_of result ≡ part_rule part.entry) × (result.global ≡ false) }
 {

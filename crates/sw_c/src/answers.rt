@@ -5,7 +5,7 @@ ghost use Rattle.sw_c.specs.Given.{IsEnded, IsObjectEnded, filled};
 use sw_text::Ended;
 use sw_text::statuses::NO_ROOM;
 
-// Fills the room with the beginning of the text, as much as there is room for.
+/// Fills the room with the beginning of the text, as much as there is room for.
 fn fill(text: &[u8], room: &mut [u8])
     ensures { room.new ≡ filled text.now room.old }
 {
@@ -13,7 +13,7 @@ fn fill(text: &[u8], room: &mut [u8])
     room[..count].copy_from_slice(&text[..count]);
 }
 
-// Gives a text with its length, and then its status.
+/// Gives a text with its length, and then its status.
 fn give(text: &[u8], status: u8, room: &mut [u8], count: &mut usize) -> u8
     ensures room { room.new ≡ filled text.now room.old }
     ensures count { count.new ≡ length text.now }

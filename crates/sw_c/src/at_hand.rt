@@ -13,7 +13,7 @@ pub(crate) struct AtHand<'a> {
     pub(crate) bytes: &'a [u8],
 }
 
-fn copied(alloc: Global, bytes: &[u8]) -> Result<Vec<u8>, AllocError>
+fn copy(alloc: Global, bytes: &[u8]) -> Result<Vec<u8>, AllocError>
     ensures { IfOk result (λ v. v.items ≡ bytes.now) }
 {
     let mut all = Vec::new(alloc);
@@ -27,7 +27,7 @@ fn input_of(alloc: Global, bytes: &[u8]) -> AuditInput
     if bytes.len() > MAX_TEXT {
         return AuditInput::TooLong;
     }
-    match copied(alloc, bytes) {
+    match copy(alloc, bytes) {
         Ok(text) => AuditInput::Whole(text),
         Err(_) => AuditInput::NoMemory,
     }

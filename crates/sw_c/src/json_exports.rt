@@ -10,15 +10,15 @@ use sw_app::{check, report};
 use sw_args::{TOOLCHAIN, VERSION};
 use sw_graph::OneByOne;
 use sw_json::ObjectForm;
-use sw_json_verdicts::{AuditOptions, Release, VerdictObject, audit_one};
+use sw_json_verdicts::{AuditOptions, Release, VerdictValues, audit_one};
 
-// This release, and the toolchain that makes it.
+/// This release, and the toolchain that makes it.
 const RELEASE: Release<'static> = Release {
     version: VERSION,
     toolchain: TOOLCHAIN,
 };
 
-// An object for the file, which is told in any case; no certificate is kept.
+/// An object for the file, which is told in any case; no certificate is kept.
 const OPTIONS: AuditOptions<'static> = AuditOptions {
     json: true,
     quiet: false,
@@ -61,12 +61,11 @@ pub extern "C" fn swcheck_check_json(
     let mut first = network;
     let mut second = certificate;
     let mut text = Vec::new(alloc);
-    let form = VerdictObject {
-        object: ObjectForm {
-            path: "network",
-            second: Some("certificate"),
-            release: RELEASE,
-        },
+    let form = ObjectForm {
+        values: VerdictValues,
+        path: "network",
+        second: Some("certificate"),
+        release: RELEASE,
     };
     let end = check(&OneByOne, alloc, &mut first, &mut second, &form, &mut text);
     give_object(end.into_ended(), &text, answer, length)
@@ -86,12 +85,11 @@ pub extern "C" fn swcheck_report_json(
 {
     let mut reader = network;
     let mut text = Vec::new(alloc);
-    let form = VerdictObject {
-        object: ObjectForm {
-            path: "network",
-            second: None,
-            release: RELEASE,
-        },
+    let form = ObjectForm {
+        values: VerdictValues,
+        path: "network",
+        second: None,
+        release: RELEASE,
     };
     let ended = report(&OneByOne, alloc, &mut reader, &form, &mut text).into_ended();
     give_object(ended, &text, answer, length)

@@ -114,7 +114,7 @@ pub fn migrate_file<R: Files + AllocGlobal, W: Write>(
     ensures faulty { IfSome result.faulty (λ read. network_text read.text.items ≡ Err read.fault) }
 {
     let Ok(mut reader) = fs::open(rt, file) else {
-        return MigrateEnd::bare(Ended::ReadFailed);
+        return MigrateEnd::from_ended(Ended::ReadFailed);
     };
     migrate(rt.alloc(), &mut reader, writer)
 }

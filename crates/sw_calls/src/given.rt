@@ -3,7 +3,7 @@ ghost use Rattle.std.specs.Prelude.{◌≡◌, ◌⊎◌, IfErr, IfOk, map, stri
 ghost use Rattle.sw_args.specs.CommandLine.{Gives, HasWorkers};
 ghost use Rattle.sw_calls.specs.Given.{EndsRefused};
 
-use crate::told::{refused, tell_refused};
+use crate::told::{tell_refused, tell_words_fault};
 use std::rt::Env;
 use std::{env, io};
 use sw_args::{Asked, WordsFault, words};
@@ -18,7 +18,7 @@ pub fn given_texts<R: Env + Print + Eprint + AllocGlobal>(rt: &R) -> Result<Vec<
 {
     let given = match env::args(rt) {
         Ok(given) => given,
-        Err(error) if error.kind() == io::ErrorKind::OutOfMemory => return Err(refused(
+        Err(error) if error.kind() == io::ErrorKind::OutOfMemory => return Err(tell_words_fault(
             rt,
             &WordsFault::Memory,
         )),
@@ -26,7 +26,7 @@ pub fn given_texts<R: Env + Print + Eprint + AllocGlobal>(rt: &R) -> Result<Vec<
     };
     match given.collect::<Vec<String>>(rt.alloc()) {
         Ok(texts) => Ok(texts),
-        Err(_) => Err(refused(rt, &WordsFault::Memory)),
+        Err(_) => Err(tell_words_fault(rt, &WordsFault::Memory)),
     }
 }
 
@@ -45,7 +45,7 @@ pub fn given_words<'a, R: Print + Eprint + AllocGlobal>(
     let mut words = Vec::new(rt.alloc());
     for text in texts {
         let Ok(()) = words.push(text.as_str()) else {
-            return Err(refused(rt, &WordsFault::Memory));
+            return Err(tell_words_fault(rt, &WordsFault::Memory));
         };
     }
     Ok(words)
@@ -66,6 +66,6 @@ pub fn given_call<'a, R: Print + Eprint + AllocGlobal>(
 {
     match words(rt.alloc(), given) {
         Ok(asked) => Ok(asked),
-        Err(fault) => Err(refused(rt, &fault)),
+        Err(fault) => Err(tell_words_fault(rt, &fault)),
     }
 }

@@ -20,7 +20,7 @@ pub fn told_end(rt: &impl Eprint, ended: Ended) -> Ended
 }
 
 /// Tells why the words give no call.
-pub(crate) fn refused<R: Print + Eprint>(rt: &R, fault: &WordsFault) -> u8
+pub(crate) fn tell_words_fault<R: Print + Eprint>(rt: &R, fault: &WordsFault) -> u8
     ensures { (result ≡ words_status fault.now) ⊎ (result ≡ exit_status Ended.WriteFailed) }
 {
     let written = match fault {

@@ -9,7 +9,7 @@ use sw_app::VerdictWorkers;
 use sw_args::{Asked, Call};
 use sw_text::Ended;
 
-// What is told of a call that the program does not have.
+/// What is told of a call that the program does not have.
 const OTHER_CALL: &str =
     "this program has route, decide, check, report, migrate and init, without --json; swcheck has the rest";
 

@@ -208,7 +208,7 @@ pub fn is_possible(
 }
 
 /// Whether some step of node `n` is possible, other than to begin a packet.
-pub fn enabled(network: &Network, n: u16, node: &NodeCell, wires: &Wires) -> bool
+pub fn can_step(network: &Network, n: u16, node: &NodeCell, wires: &Wires) -> bool
     requires node { IsNodeFor network.now n node.now }
     requires reached { HasNodeState (network_of network.now) n node.now wires.now }
     ensures { NodeEnabled (network_of network.now) n node.now wires.now result }

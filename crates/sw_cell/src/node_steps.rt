@@ -15,7 +15,7 @@ use crate::node;
 use std::alloc::{AllocError, Global};
 use sw_config::Network;
 use sw_link::Wires;
-use sw_machine::Step;
+use sw_machine::{Move, Step};
 use sw_node::NodeCell;
 
 /// Makes the step, which has to be one at node `n`, if it is possible.
@@ -45,15 +45,17 @@ pub fn step_node(
     ensures refused_wires { OnErr result (wires.new ≡ wires.old) }
 {
     match step {
-        Step::Fct(_) => Ok(node::fct(network, n, cell, wires)),
-        Step::FctIn(_) => Ok(node::fct_in(network, n, cell, wires)),
-        Step::Arrive(_) => Ok(node::arrive(network, n, cell, wires)),
-        Step::Emit(_) => Ok(node::emit(network, n, cell, wires)),
-        Step::Accept(_) => node::accept(alloc, n, cell),
-        Step::Reply(_) => Ok(node::reply(n, cell)),
+        Step::Move(step) => match step {
+            Move::Fct(_) => Ok(node::fct(network, n, cell, wires)),
+            Move::FctIn(_) => Ok(node::fct_in(network, n, cell, wires)),
+            Move::Arrive(_) => Ok(node::arrive(network, n, cell, wires)),
+            Move::Emit(_) => Ok(node::emit(network, n, cell, wires)),
+            Move::Accept(_) => node::accept(alloc, n, cell),
+            Move::Reply(_) => Ok(node::reply(n, cell)),
+            _ => Ok(false),
+        },
         Step::Begin { flow, cargo, end } => {
             node::begin(alloc, network, n, *flow, cargo, *end, cell)
         }
-        _ => Ok(false),
     }
 }

@@ -6,7 +6,7 @@ use crate::cell::CellId;
 use crate::fault::NetFault;
 use crate::node::begins_at;
 use sw_config::Network;
-use sw_machine::Step;
+use sw_machine::{Move, Step};
 use sw_topo::PlaceEnd;
 
 /// The cell at which the step is done.
@@ -27,35 +27,37 @@ pub fn cell_of(network: &Network, step: &Step) -> Result<CellId, NetFault>
                 None => Err(NetFault::NotInFlow),
             }
         }
-        Step::FctIn(channel) => {
-            if channel.number() >= network.channels() {
-                return Err(NetFault::NotEnabled);
+        Step::Move(step) => match step {
+            Move::FctIn(channel) => {
+                if channel.number() >= network.channels() {
+                    return Err(NetFault::NotEnabled);
+                }
+                match network.topology().start_of(*channel) {
+                    PlaceEnd::Node(n) => Ok(CellId::Node(n)),
+                    PlaceEnd::Switch(w, _) => Ok(CellId::Switch(w)),
+                }
             }
-            match network.topology().start_of(*channel) {
-                PlaceEnd::Node(n) => Ok(CellId::Node(n)),
-                PlaceEnd::Switch(w, _) => Ok(CellId::Switch(w)),
+            Move::Fct(channel)
+            | Move::Arrive(channel)
+            | Move::Grant(_, channel)
+            | Move::Drop(channel)
+            | Move::Forward(channel)
+            | Move::Spill(channel) => {
+                if channel.number() >= network.channels() {
+                    return Err(NetFault::NotEnabled);
+                }
+                match network.topology().end_of(*channel) {
+                    PlaceEnd::Node(n) => Ok(CellId::Node(n)),
+                    PlaceEnd::Switch(w, _) => Ok(CellId::Switch(w)),
+                }
             }
-        }
-        Step::Fct(channel)
-        | Step::Arrive(channel)
-        | Step::Grant(_, channel)
-        | Step::Drop(channel)
-        | Step::Forward(channel)
-        | Step::Spill(channel) => {
-            if channel.number() >= network.channels() {
-                return Err(NetFault::NotEnabled);
+            Move::Emit(node) | Move::Accept(node) | Move::Reply(node) => {
+                if *node < network.nodes() {
+                    Ok(CellId::Node(*node))
+                } else {
+                    Err(NetFault::NotEnabled)
+                }
             }
-            match network.topology().end_of(*channel) {
-                PlaceEnd::Node(n) => Ok(CellId::Node(n)),
-                PlaceEnd::Switch(w, _) => Ok(CellId::Switch(w)),
-            }
-        }
-        Step::Emit(node) | Step::Accept(node) | Step::Reply(node) => {
-            if *node < network.nodes() {
-                Ok(CellId::Node(*node))
-            } else {
-                Err(NetFault::NotEnabled)
-            }
-        }
+        },
     }
 }

@@ -316,7 +316,7 @@ pub fn can_grant<R: Routing, A: Arbiter>(
 }
 
 /// Whether some step of the link end, which stands at switch `w`, is possible.
-pub fn enabled<R: Routing, A: Arbiter>(
+pub fn can_step<R: Routing, A: Arbiter>(
     network: &Network,
     w: u16,
     end: LinkEnd,

@@ -10,7 +10,7 @@ use crate::switch;
 use sw_arb::Arbiter;
 use sw_config::Network;
 use sw_link::Wires;
-use sw_machine::Step;
+use sw_machine::{Move, Step};
 use sw_route::Routing;
 use sw_switch::SwitchCell;
 
@@ -31,13 +31,16 @@ pub fn step_switch<R: Routing, A: Arbiter>(
     ensures made { SwitchMakes network.now w cell.old wires.old (machine_step step.now) result cell.new wires.new }
 {
     match step {
-        Step::Fct(channel) => switch::fct(network, w, *channel, cell, wires),
-        Step::FctIn(channel) => switch::fct_in(network, w, *channel, cell, wires),
-        Step::Arrive(channel) => switch::arrive(network, w, *channel, cell, wires),
-        Step::Grant(output, channel) => switch::grant(network, w, *output, *channel, cell),
-        Step::Drop(channel) => switch::drop_front(network, w, *channel, cell),
-        Step::Forward(channel) => switch::forward(network, w, *channel, cell, wires),
-        Step::Spill(channel) => switch::spill(network, w, *channel, cell),
-        _ => false,
+        Step::Move(step) => match step {
+            Move::Fct(channel) => switch::fct(network, w, *channel, cell, wires),
+            Move::FctIn(channel) => switch::fct_in(network, w, *channel, cell, wires),
+            Move::Arrive(channel) => switch::arrive(network, w, *channel, cell, wires),
+            Move::Grant(output, channel) => switch::grant(network, w, *output, *channel, cell),
+            Move::Drop(channel) => switch::drop_front(network, w, *channel, cell),
+            Move::Forward(channel) => switch::forward(network, w, *channel, cell, wires),
+            Move::Spill(channel) => switch::spill(network, w, *channel, cell),
+            _ => false,
+        },
+        Step::Begin { .. } => false,
     }
 }

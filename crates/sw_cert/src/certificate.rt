@@ -11,7 +11,7 @@ use crate::draft::Draft;
 use crate::lines::Expected;
 use crate::parts::{ReadWorkers, parts_of};
 use crate::reading::{read_lines, take_lists};
-use crate::write::spelled;
+use crate::write::spell;
 use std::alloc::{AllocError, Global};
 use std::marker::Model;
 use sw_flow::Place;
@@ -43,7 +43,7 @@ impl Model for Certificate {
 }
 
 /// The certificate that a draft has become, if nothing more is expected and no rest stands after the last line.
-fn finished(draft: Draft, rest: &[u8], number: usize) -> Result<Certificate, CertificateFault>
+fn finish(draft: Draft, rest: &[u8], number: usize) -> Result<Certificate, CertificateFault>
     requires sound { IsSound (state_of draft) }
     requires all { slice_split (λ b. b == 10) rest.now ≡ rest.now ∷ [] }
     ensures { Gives (read_rest number (state_of draft) rest.now) result }
@@ -97,7 +97,7 @@ impl Certificate {
     {
         let mut draft = Draft::new(alloc, Expected::Title);
         match read_text(workers, alloc, &mut draft, text) {
-            Ok((rest, number)) => finished(draft, rest, number),
+            Ok((rest, number)) => finish(draft, rest, number),
             Err(fault) => Err(fault),
         }
     }
@@ -123,7 +123,7 @@ impl Certificate {
     pub fn write(&self, alloc: Global) -> Result<Vec<u8>, AllocError>
         ensures { IfOk result (λ text. text.items ≡ spelling self.now.numbers self.now.places) }
     {
-        spelled(alloc, &self.numbers, &self.places)
+        spell(alloc, &self.numbers, &self.places)
     }
 }
 

@@ -2,7 +2,7 @@
 ghost use Rattle.std.specs.Prelude.{◌≡◌, [], OnOk, IfOk};
 ghost use Rattle.sw_cert.specs.Reading.{Follows, state_of, with_place, with_said};
 
-use crate::lines::{Expected, Said, moved, said_by};
+use crate::lines::{Expected, Said, next_expected, said_by};
 use std::alloc::{AllocError, Global};
 use std::mem;
 use sw_flow::Place;
@@ -52,7 +52,7 @@ impl Draft {
         let Some(said) = said_by(expected, last, line) else {
             return Ok(false);
         };
-        let next = moved(expected, &said);
+        let next = next_expected(expected, &said);
         self.add(alloc, said)?;
         self.expected = next;
         Ok(true)

@@ -147,7 +147,7 @@ pub(crate) fn said_by(expected: Expected, last: Option<Place>, line: &[u8]) -> O
 }
 
 /// What is expected after a line.
-pub(crate) fn moved(expected: Expected, said: &Said) -> Expected
+pub(crate) fn next_expected(expected: Expected, said: &Said) -> Expected
     ensures { result ≡ moved expected said.now }
 {
     match (expected, said) {

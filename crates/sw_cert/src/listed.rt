@@ -23,7 +23,7 @@ fn is_at(listed: &[Place], index: usize, place: &Place) -> bool
 }
 
 /// Where a search for the place ends, which halves the list at each turn: the place stands there or nowhere.
-fn place_in(listed: &[Place], place: &Place) -> usize
+fn index_in(listed: &[Place], place: &Place) -> usize
     requires { IsBlock listed.now }
     ensures { is_at listed.now result place.now ≡ is_listed listed.now place.now }
 {
@@ -60,7 +60,7 @@ pub(crate) fn is_listed(listed: &[Place], next: &mut usize, place: &Place) -> bo
         *next = before.saturating_add(1);
         return true;
     }
-    let found = place_in(listed, place);
+    let found = index_in(listed, place);
     *next = found.saturating_add(1);
     is_at(listed, found, place)
 }

@@ -130,7 +130,7 @@ impl<R: Threads + Sync> ReadWorkers for SideBySide<'_, R> {
 }
 
 impl ReadWorkers for OneByOne {
-    // One thread reads a text in one go.
+    /// One thread reads a text in one go.
     fn lists_of_parts(
         &self,
         alloc: Global,

@@ -24,11 +24,11 @@ fn pieces(alloc: Global, before: &str, after: &str, count: usize) -> Result<Vec<
 
 /// Adds the number between the two words: the piece of that number where there is one.
 fn add_piece(
-    text: &mut String,
     pieces: &[String],
     before: &str,
     number: usize,
     after: &str,
+    text: &mut String,
 ) -> Result<(), AllocError>
     requires { ArePieces before.now after.now pieces.now }
     ensures { OnOk result (string_bytes text.new ≡ string_bytes text.old ++ piece before.now after.now number) }
@@ -40,7 +40,7 @@ fn add_piece(
 }
 
 /// Adds a line of a word and a number.
-fn add_field(text: &mut String, word: &str, value: usize) -> Result<(), AllocError>
+fn add_field(word: &str, value: usize, text: &mut String) -> Result<(), AllocError>
     ensures { OnOk result (string_bytes text.new ≡ string_bytes text.old ++ with_lf (word.now ++ decimal value)) }
 {
     write!(text, "{word}{value}\n")
@@ -49,25 +49,25 @@ fn add_field(text: &mut String, word: &str, value: usize) -> Result<(), AllocErr
 /// Adds the list of a flow, the line of each place of a piece for its channel and one for its deleted bytes: a certificate has them in
 /// thousands of lines.
 fn add_block(
-    text: &mut String,
     heads: &[String],
     tails: &[String],
     places: &[Place],
+    text: &mut String,
 ) -> Result<(), AllocError>
     requires heads { AreHeads heads.now }
     requires tails { AreTails tails.now }
     ensures { OnOk result (string_bytes text.new ≡ string_bytes text.old ++ (with_lf (codes "flow " ++ decimal (length places.now)) ++ flat_map (λ p. with_lf (place_line p)) places.now)) }
 {
-    add_field(text, "flow ", places.len())?;
+    add_field("flow ", places.len(), text)?;
     for place in places {
         add_piece(
-            text,
             heads,
             "place ",
             usize::from(place.channel.number()),
             " ",
+            text,
         )?;
-        add_piece(text, tails, "", usize::from(place.deleted), "\n")?;
+        add_piece(tails, "", usize::from(place.deleted), "\n", text)?;
     }
     Ok(())
 }
@@ -75,23 +75,23 @@ fn add_block(
 /// Adds the lists of the flows, in a network of so many channels, and the last line.
 fn add_lists(
     alloc: Global,
-    text: &mut String,
     channels: usize,
     flows: &[Vec<Place>],
+    text: &mut String,
 ) -> Result<(), AllocError>
     ensures { OnOk result (string_bytes text.new ≡ string_bytes text.old ++ flat_map with_lf (flow_lines (length flows.now) (map items_of flows.now) ++ codes "end" ∷ [])) }
 {
-    add_field(text, "flows ", flows.len())?;
+    add_field("flows ", flows.len(), text)?;
     let heads = pieces(alloc, "place ", " ", channels)?;
     let tails = pieces(alloc, "", "\n", usize::from(MAX_ADDRESS) + 1)?;
     for places in flows {
-        add_block(text, &heads, &tails, places)?;
+        add_block(&heads, &tails, places, text)?;
     }
     text.push_str("end\n")
 }
 
 /// The text of a certificate with these numbers and places.
-pub(crate) fn spelled(
+pub(crate) fn spell(
     alloc: Global,
     numbers: &[u16],
     flows: &[Vec<Place>],
@@ -100,8 +100,8 @@ pub(crate) fn spelled(
 {
     let mut text = format!(in alloc; "swcert 1\nchannels {}\n", numbers.len())?;
     for number in numbers {
-        add_field(&mut text, "number ", usize::from(*number))?;
+        add_field("number ", usize::from(*number), &mut text)?;
     }
-    add_lists(alloc, &mut text, numbers.len(), flows)?;
+    add_lists(alloc, numbers.len(), flows, &mut text)?;
     Ok(text.into_bytes())
 }

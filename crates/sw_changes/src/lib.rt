@@ -16,5 +16,5 @@ mod mend_values;
 mod mending;
 
 pub use margin_finding::{MarginFinding, margin};
-pub use mend_finding::mend;
+pub use mend_finding::{ChangeValues, mend};
 pub use mending::{Cures, Mending, find_mending};

@@ -9,7 +9,7 @@ use sw_explain::ending;
 use sw_mend::{Limiting, TargetSlots};
 use sw_output::node_name;
 
-// How many commands of each flow may be unanswered.
+/// How many commands of each flow may be unanswered.
 fn most_words(alloc: Global, most: u16) -> Result<String, AllocError>
     ensures { IfOk result (λ s. string_bytes s ≡ most_words most) }
 {
@@ -17,12 +17,12 @@ fn most_words(alloc: Global, most: u16) -> Result<String, AllocError>
     format!(in alloc; "at most {most} unanswered command{ending} of each flow")
 }
 
-// Adds how many replies the target of a node has to be able to owe, behind what stands before it.
+/// Adds how many replies the target of a node has to be able to owe, behind what stands before it.
 fn add_target_slots(
-    text: &mut String,
     network: &Network,
     before: &str,
     more: &TargetSlots,
+    text: &mut String,
 ) -> Result<(), AllocError>
     ensures { OnOk result (string_bytes text.new ≡ string_bytes text.old ++ (before.now ++ target_slots_words network.now more.now)) }
 {
@@ -31,21 +31,21 @@ fn add_target_slots(
     write!(text, "{before}{slots} at {name}")
 }
 
-// Adds the same of each of these, behind a comma each.
+/// Adds the same of each of these, behind a comma each.
 fn add_further_slots(
-    text: &mut String,
     network: &Network,
     slots: &[TargetSlots],
+    text: &mut String,
 ) -> Result<(), AllocError>
     ensures { OnOk result (string_bytes text.new ≡ string_bytes text.old ++ flat_map (further_slots_words network.now) slots.now) }
 {
     for more in slots {
-        add_target_slots(text, network, ", ", more)?;
+        add_target_slots(network, ", ", more, text)?;
     }
     Ok(())
 }
 
-// The same of all of these.
+/// The same of all of these.
 fn slots_words(
     alloc: Global,
     network: &Network,
@@ -57,12 +57,12 @@ fn slots_words(
     let [first, others @ ..] = slots else {
         return Ok(text);
     };
-    add_target_slots(&mut text, network, "slots ", first)?;
-    add_further_slots(&mut text, network, others)?;
+    add_target_slots(network, "slots ", first, &mut text)?;
+    add_further_slots(network, others, &mut text)?;
     Ok(text)
 }
 
-// The limit, or the slots, or both.
+/// The limit, or the slots, or both.
 fn limit_and_slots_words(
     alloc: Global,
     network: &Network,

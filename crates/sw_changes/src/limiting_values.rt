@@ -11,7 +11,7 @@ use sw_json::{Member, add_value, object_of};
 use sw_mend::{Limiting, TargetSlots};
 use sw_output::node_name;
 
-// How many commands of each flow may be unanswered.
+/// How many commands of each flow may be unanswered.
 fn most_value(alloc: Global, most: u16) -> Result<Value, AllocError>
     ensures { IfOk result (λ v. view v ≡ most_value most) }
 {
@@ -22,18 +22,18 @@ fn most_value(alloc: Global, most: u16) -> Result<Value, AllocError>
     object_of(alloc, members)
 }
 
-// The same, if there is such a limit.
+/// The same, if there is such a limit.
 fn most_values(alloc: Global, most: Option<u16>) -> Result<Vec<Value>, AllocError>
     ensures { IfOk result (λ v. map view v.items ≡ most_values most) }
 {
     let mut values = Vec::new(alloc);
     if let Some(most) = most {
-        add_value(&mut values, most_value(alloc, most))?;
+        add_value(most_value(alloc, most), &mut values)?;
     }
     Ok(values)
 }
 
-// How many replies the target of a node has to be able to owe.
+/// How many replies the target of a node has to be able to owe.
 fn target_slots_value(
     alloc: Global,
     network: &Network,
@@ -50,7 +50,7 @@ fn target_slots_value(
     object_of(alloc, members)
 }
 
-// Adds the same of each of these.
+/// Adds the same of each of these.
 fn add_slots_values(
     alloc: Global,
     network: &Network,
@@ -60,7 +60,7 @@ fn add_slots_values(
     ensures { OnOk result (map view values.new.items ≡ map view values.old.items ++ map (target_slots_value network.now) slots.now) }
 {
     for more in slots {
-        add_value(values, target_slots_value(alloc, network, more))?;
+        add_value(target_slots_value(alloc, network, more), values)?;
     }
     Ok(())
 }

@@ -10,13 +10,14 @@ ghost use Rattle.sw_changes.specs.MarginAnswers.{IsMarginFinding, margin_lines, 
 use crate::margin_texts::margin_text;
 use crate::margin_value_laws::margins_are_plain;
 use crate::margin_values::margins_value;
+use crate::mend_finding::ChangeValues;
 use serde_json::Value;
 use std::alloc::{AllocError, Global};
 use std::io::{Read, Write};
 use sw_config::Network;
 use sw_engine::{AsLines, CommandEnd, Finding, Form, read_network_file, tell_found};
 use sw_json::laws::verdicts_are_plain;
-use sw_json::{AsValue, CommandOutcome, SecondFile, verdict_value};
+use sw_json::{CommandOutcome, SecondFile, Values, verdict_value};
 use sw_margin::{Margins, margins};
 use sw_output::misrouted_text;
 use sw_search::{Verdict, VerdictWorkers, decide};
@@ -50,35 +51,37 @@ impl AsLines for MarginFinding {
     }
 }
 
-impl AsValue for MarginFinding {
+impl Values<MarginFinding> for ChangeValues {
     ghost command = { codes "margin" };
 
-    ghost results_of = { λ _ _ d f. IsCommandOutcome (margin_value d f) 0 };
+    ghost results_of = { λ _ _ _ d f. IsCommandOutcome (margin_value d f) 0 };
 
-    fn command() -> &'static str {
+    fn command(&self) -> &'static str {
         "margin"
     }
 
     fn outcome(
         &self,
         alloc: Global,
+        _path: &str,
         _second: SecondFile<'_>,
         network: &Network,
+        found: &MarginFinding,
     ) -> Result<CommandOutcome, AllocError> {
         margins_are_plain();
         verdicts_are_plain();
-        let result = self.value(alloc, network)?;
+        let result = found.value(alloc, network)?;
         Ok(CommandOutcome {
             result,
             status: GOOD,
         })
     }
 
-    ghost result_has_status = { λ _ _ _ _ _ _ is. is.1 };
+    ghost result_has_status = { λ _ _ _ _ _ _ _ is. is.1 };
 }
 
 impl MarginFinding {
-    // That the network is not free, or the flow that is not well routed; else what it stands.
+    /// That the network is not free, or the flow that is not well routed; else what it stands.
     fn text(&self, alloc: Global, network: &Network) -> Result<String, AllocError>
         requires { IsMarginFinding network.now self.now }
         ensures { IfOk result (λ text. string_bytes text ≡ margin_lines network.now self.now) }
@@ -92,7 +95,7 @@ impl MarginFinding {
         }
     }
 
-    // The verdict, where the network is not free; else what it stands.
+    /// The verdict, where the network is not free; else what it stands.
     fn value(&self, alloc: Global, network: &Network) -> Result<Value, AllocError>
         requires { IsMarginFinding network.now self.now }
         ensures { IfOk result (λ v. view v ≡ margin_value network.now self.now) }
@@ -104,7 +107,7 @@ impl MarginFinding {
     }
 }
 
-// What is found of a network.
+/// What is found of a network.
 fn find<T: VerdictWorkers>(
     workers: &T,
     alloc: Global,
@@ -141,11 +144,5 @@ pub fn margin<T: VerdictWorkers, R: Read, F: Form<MarginFinding>, W: Write>(
         Some(network) => Some(find(workers, alloc, network)),
         None => None,
     };
-    let ended = tell_found(form, alloc, &file, None, &found, writer);
-    CommandEnd {
-        ended,
-        file,
-        second: None,
-        found,
-    }
+    tell_found(alloc, file, None, found, form, writer)
 }

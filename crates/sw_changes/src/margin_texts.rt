@@ -11,15 +11,15 @@ use sw_margin::{FlowLimit, Margins};
 use sw_output::{channel_text, flow_name, node_name};
 use sw_topo::Chan;
 
-// Whether the network stays free, in the words that a line begins with.
+/// Whether the network stays free, in the words that a line begins with.
 fn stays_words(stays_free: bool) -> &'static str
     ensures { result.now ≡ stays_words stays_free }
 {
     if stays_free { "free if" } else { "not free if" }
 }
 
-// Adds the line of how many commands of a flow may be unanswered.
-fn add_limit_line(text: &mut String, network: &Network, limit: &FlowLimit) -> Result<(), AllocError>
+/// Adds the line of how many commands of a flow may be unanswered.
+fn add_limit_line(network: &Network, limit: &FlowLimit, text: &mut String) -> Result<(), AllocError>
     ensures { OnOk result (string_bytes text.new ≡ string_bytes text.old ++ limit_line network.now limit.now) }
 {
     let name = flow_name(network, limit.flow);
@@ -38,24 +38,24 @@ fn add_limit_line(text: &mut String, network: &Network, limit: &FlowLimit) -> Re
     }
 }
 
-// Adds the names of flows, or that there is none, and ends the line.
-fn add_flows(text: &mut String, network: &Network, flows: &[u16]) -> Result<(), AllocError>
+/// Adds the names of flows, or that there is none, and ends the line.
+fn add_flows(network: &Network, flows: &[u16], text: &mut String) -> Result<(), AllocError>
     ensures { OnOk result (string_bytes text.new ≡ string_bytes text.old ++ (flows_words network.now flows.now ++ codes "\n")) }
 {
     if flows.is_empty() {
         return text.push_str("no flow\n");
     }
-    add_names(text, network, " ", flows)?;
+    add_names(network, " ", flows, text)?;
     text.push_str("\n")
 }
 
-// Adds the line of the flows that are lost without the link of that number, which is told by its first channel.
+/// Adds the line of the flows that are lost without the link of that number, which is told by its first channel.
 fn add_loss_line(
-    text: &mut String,
     alloc: Global,
     network: &Network,
     link: usize,
     flows: &[u16],
+    text: &mut String,
 ) -> Result<(), AllocError>
     requires { 2 * link < length (wiring_of network.now).ends }
     ensures { OnOk result (string_bytes text.new ≡ string_bytes text.old ++ loss_line network.now link flows.now) }
@@ -64,7 +64,7 @@ fn add_loss_line(
     let _channels = network.channels();
     let name = channel_text(alloc, network, Chan::new((2 * link) as u16))?;
     write!(text, "lost without the link {name}: ")?;
-    add_flows(text, network, flows)
+    add_flows(network, flows, text)
 }
 
 /// The lines of a free network: one for each node where nothing that comes may have to wait for a reply, for each flow without a reply, for
@@ -89,12 +89,12 @@ pub(crate) fn margin_text(
         write!(text, "{words} {name} is answered along its own way\n")?;
     }
     for limit in &told.limits {
-        add_limit_line(&mut text, network, limit)?;
+        add_limit_line(network, limit, &mut text)?;
     }
     // There are at most 2,048.
     let _channels = network.channels();
     for (link, flows) in told.losses.iter().enumerate() {
-        add_loss_line(&mut text, alloc, network, link, flows)?;
+        add_loss_line(alloc, network, link, flows, &mut text)?;
     }
     Ok(text)
 }

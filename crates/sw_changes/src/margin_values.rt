@@ -14,7 +14,7 @@ use sw_margin::{Bend, FlowLimit, Margins};
 use sw_output::{flow_name, node_name};
 use sw_topo::Chan;
 
-// The flows that are lost without the link of that number.
+/// The flows that are lost without the link of that number.
 fn loss_value(
     alloc: Global,
     network: &Network,
@@ -40,7 +40,7 @@ fn loss_value(
     object_of(alloc, members)
 }
 
-// An object for each link.
+/// An object for each link.
 fn loss_list(
     alloc: Global,
     network: &Network,
@@ -52,12 +52,12 @@ fn loss_list(
     let _channels = network.channels();
     let mut values = Vec::new(alloc);
     for (link, flows) in losses.iter().enumerate() {
-        add_value(&mut values, loss_value(alloc, network, link, flows))?;
+        add_value(loss_value(alloc, network, link, flows), &mut values)?;
     }
     Ok(values)
 }
 
-// An object for each node at which no answered flow ends.
+/// An object for each node at which no answered flow ends.
 fn stall_list(alloc: Global, network: &Network, stalls: &[Bend]) -> Result<Vec<Value>, AllocError>
     ensures { IfOk result (λ v. map view v.items ≡ map (stall_value network.now) stalls.now) }
 {
@@ -69,12 +69,12 @@ fn stall_list(alloc: Global, network: &Network, stalls: &[Bend]) -> Result<Vec<V
             alloc,
             vec![in alloc; ("free", Member::Truth(free)), ("node", Member::Text(name))]?,
         );
-        add_value(&mut values, value)?;
+        add_value(value, &mut values)?;
     }
     Ok(values)
 }
 
-// An object for each flow without a reply.
+/// An object for each flow without a reply.
 fn answer_list(alloc: Global, network: &Network, answers: &[Bend]) -> Result<Vec<Value>, AllocError>
     ensures { IfOk result (λ v. map view v.items ≡ map (answered_value network.now) answers.now) }
 {
@@ -86,12 +86,12 @@ fn answer_list(alloc: Global, network: &Network, answers: &[Bend]) -> Result<Vec
             alloc,
             vec![in alloc; ("flow", Member::Text(name)), ("free", Member::Truth(free))]?,
         );
-        add_value(&mut values, value)?;
+        add_value(value, &mut values)?;
     }
     Ok(values)
 }
 
-// How many commands may be unanswered: null where any number may.
+/// How many commands may be unanswered: null where any number may.
 fn most_value(most: Option<u16>) -> Member<'static>
     ensures { member_value result ≡ count_or_null most }
 {
@@ -101,7 +101,7 @@ fn most_value(most: Option<u16>) -> Member<'static>
     }
 }
 
-// The greatest limit of a flow with which the network stays free.
+/// The greatest limit of a flow with which the network stays free.
 fn limit_value(alloc: Global, network: &Network, limit: &FlowLimit) -> Result<Value, AllocError>
     ensures { IfOk result (λ v. view v ≡ flow_limit_value network.now limit.now) }
 {
@@ -111,7 +111,7 @@ fn limit_value(alloc: Global, network: &Network, limit: &FlowLimit) -> Result<Va
     object_of(alloc, members)
 }
 
-// An object for each flow with a limit of its own.
+/// An object for each flow with a limit of its own.
 fn limit_list(
     alloc: Global,
     network: &Network,
@@ -121,7 +121,7 @@ fn limit_list(
 {
     let mut values = Vec::new(alloc);
     for limit in limits {
-        add_value(&mut values, limit_value(alloc, network, limit))?;
+        add_value(limit_value(alloc, network, limit), &mut values)?;
     }
     Ok(values)
 }

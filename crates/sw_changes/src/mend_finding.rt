@@ -17,7 +17,7 @@ use std::io::{Read, Write};
 use sw_config::Network;
 use sw_engine::{AsLines, CommandEnd, Finding, Form, read_network_file, tell_found};
 use sw_json::laws::verdicts_are_plain;
-use sw_json::{AsValue, CommandOutcome, SecondFile};
+use sw_json::{CommandOutcome, SecondFile, Values};
 use sw_search::VerdictWorkers;
 
 impl Finding for Mending {
@@ -39,28 +39,34 @@ impl AsLines for Mending {
     }
 }
 
-impl AsValue for Mending {
+/// How what is found by `mend` and `margin` is told as values of JSON.
+#[derive(Clone, Copy)]
+pub struct ChangeValues;
+
+impl Values<Mending> for ChangeValues {
     ghost command = { codes "mend" };
 
-    ghost results_of = { λ _ _ d f. IsCommandOutcome (mending_value d f) (mending_status f) };
+    ghost results_of = { λ _ _ _ d f. IsCommandOutcome (mending_value d f) (mending_status f) };
 
-    fn command() -> &'static str {
+    fn command(&self) -> &'static str {
         "mend"
     }
 
     fn outcome(
         &self,
         alloc: Global,
+        _path: &str,
         _second: SecondFile<'_>,
         network: &Network,
+        found: &Mending,
     ) -> Result<CommandOutcome, AllocError> {
         mends_are_plain();
-        let result = mending_value(alloc, network, self)?;
-        let status = mending_status(self);
+        let result = mending_value(alloc, network, found)?;
+        let status = mending_status(found);
         Ok(CommandOutcome { result, status })
     }
 
-    ghost result_has_status = { λ _ _ _ _ _ _ is. is.1 };
+    ghost result_has_status = { λ _ _ _ _ _ _ _ is. is.1 };
 }
 
 /// Which single changes make the network of a file free of deadlocks, in this form: 0 where some change does or the network is free
@@ -81,14 +87,8 @@ pub fn mend<T: VerdictWorkers, R: Read, F: Form<Mending>, W: Write>(
 {
     let file = read_network_file(alloc, reader);
     let found = match file.network() {
-        Some(network) => Some(find_mending(workers, alloc, pairs, network)),
+        Some(network) => Some(find_mending(workers, alloc, network, pairs)),
         None => None,
     };
-    let ended = tell_found(form, alloc, &file, None, &found, writer);
-    CommandEnd {
-        ended,
-        file,
-        second: None,
-        found,
-    }
+    tell_found(alloc, file, None, found, form, writer)
 }

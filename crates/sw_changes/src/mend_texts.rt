@@ -13,14 +13,14 @@ use sw_output::{entry_words, flow_name, misrouted_text, node_name, switch_name};
 use sw_text::statuses::{BAD, GOOD};
 use sw_topo::Port;
 
-// The words, and the name behind a space.
+/// The words, and the name behind a space.
 fn with_name(alloc: Global, words: &str, name: &str) -> Result<String, AllocError>
     ensures { IfOk result (λ s. string_bytes s ≡ spaced (words.now ∷ name.now ∷ [])) }
 {
     format!(in alloc; "{words} {name}")
 }
 
-// What is less of a table entry: that port, or all of it.
+/// What is less of a table entry: that port, or all of it.
 fn less_words(
     alloc: Global,
     network: &Network,
@@ -80,7 +80,7 @@ pub fn change_words(alloc: Global, network: &Network, change: &Change) -> Result
     }
 }
 
-// What the target of a node gets.
+/// What the target of a node gets.
 fn split_words(alloc: Global, network: &Network, link: &TargetLink) -> Result<String, AllocError>
     ensures { IfOk result (λ s. string_bytes s ≡ split_words network.now link.now) }
 {
@@ -104,7 +104,7 @@ pub fn trial_words(alloc: Global, network: &Network, trial: &Trial) -> Result<St
     }
 }
 
-// Adds the line of the limit and the slots that free the network, if there are such.
+/// Adds the line of the limit and the slots that free the network, if there are such.
 fn add_limiting(
     alloc: Global,
     network: &Network,
@@ -122,7 +122,7 @@ fn add_limiting(
     }
 }
 
-// Adds the lines of the changes that free the network.
+/// Adds the lines of the changes that free the network.
 fn add_mends(
     alloc: Global,
     network: &Network,
@@ -138,7 +138,7 @@ fn add_mends(
     Ok(())
 }
 
-// Adds the lines of the pairs of changes that free it.
+/// Adds the lines of the pairs of changes that free it.
 fn add_pairs(
     alloc: Global,
     network: &Network,
@@ -165,7 +165,7 @@ pub fn told_pairs(cures: &Cures) -> &[Pair]
     }
 }
 
-// Does a limit, some change or some pair free the network?
+/// Does a limit, some change or some pair free the network?
 fn is_cured(cures: &Cures) -> bool
     ensures { result ≡ is_cured cures.now }
 {
@@ -175,7 +175,7 @@ fn is_cured(cures: &Cures) -> bool
         || !cures.units.is_empty()
 }
 
-// The lines of what frees the network, or that nothing does.
+/// The lines of what frees the network, or that nothing does.
 fn cures_text(alloc: Global, network: &Network, cures: &Cures) -> Result<String, AllocError>
     ensures { IfOk result (λ s. string_bytes s ≡ cures_text network.now cures.now) }
 {
@@ -210,7 +210,7 @@ pub(crate) fn mending_text(
     }
 }
 
-// 0 where some change or some pair frees the network.
+/// 0 where some change or some pair frees the network.
 fn cures_status(cures: &Cures) -> u8
     ensures { result ≡ cures_status cures.now }
 {

@@ -23,7 +23,7 @@ use sw_route::Route;
 use sw_search::Verdict;
 use sw_topo::Port;
 
-// The entry of that number of the switch's table, if there is one.
+/// The entry of that number of the switch's table, if there is one.
 fn route_at(network: &Network, switch: u16, entry: usize) -> Option<Route>
     ensures { result ≡ slice_get (routes_of network.now.switches switch) entry }
 {
@@ -33,7 +33,7 @@ fn route_at(network: &Network, switch: u16, entry: usize) -> Option<Route>
     network.routes(switch).get(entry).copied()
 }
 
-// The addresses that the entry is for: the first, and the last.
+/// The addresses that the entry is for: the first, and the last.
 fn addresses(network: &Network, switch: u16, entry: usize) -> (Member<'static>, Member<'static>)
     ensures first { member_value result.0 ≡ first_value network.now switch entry }
     ensures last { member_value result.1 ≡ last_value network.now switch entry }
@@ -48,7 +48,7 @@ fn addresses(network: &Network, switch: u16, entry: usize) -> (Member<'static>, 
     }
 }
 
-// A change of what goes with a flow or a node, which is told by its name under this key.
+/// A change of what goes with a flow or a node, which is told by its name under this key.
 fn named_change<'a>(
     alloc: Global,
     kind: &'a str,
@@ -61,7 +61,7 @@ fn named_change<'a>(
     object_of(alloc, members)
 }
 
-// A change of what goes with the flows from one node to another.
+/// A change of what goes with the flows from one node to another.
 fn of_nodes(
     alloc: Global,
     network: &Network,
@@ -81,7 +81,7 @@ fn of_nodes(
     object_of(alloc, members)
 }
 
-// A port less for the addresses of a table entry.
+/// A port less for the addresses of a table entry.
 fn of_port(
     alloc: Global,
     network: &Network,
@@ -104,7 +104,7 @@ fn of_port(
     object_of(alloc, members)
 }
 
-// A table entry less.
+/// A table entry less.
 fn of_entry(
     alloc: Global,
     network: &Network,
@@ -124,7 +124,7 @@ fn of_entry(
     object_of(alloc, members)
 }
 
-// What is taken away.
+/// What is taken away.
 fn change_value(alloc: Global, network: &Network, change: &Change) -> Result<Value, AllocError>
     ensures { IfOk result (λ v. view v ≡ change_value network.now change.now) }
 {
@@ -151,7 +151,7 @@ fn change_value(alloc: Global, network: &Network, change: &Change) -> Result<Val
     }
 }
 
-// What is taken away, or what the target of a node gets.
+/// What is taken away, or what the target of a node gets.
 fn trial_value(alloc: Global, network: &Network, trial: &Trial) -> Result<Value, AllocError>
     ensures { IfOk result (λ v. view v ≡ trial_value network.now trial.now) }
 {
@@ -172,7 +172,7 @@ fn trial_value(alloc: Global, network: &Network, trial: &Trial) -> Result<Value,
     }
 }
 
-// The line of a change that frees the network, without its LF.
+/// The line of a change that frees the network, without its LF.
 fn mend_words(alloc: Global, network: &Network, trial: &Trial) -> Result<String, AllocError>
     ensures { IfOk result (λ s. string_bytes s ≡ mend_words network.now trial.now) }
 {
@@ -180,7 +180,7 @@ fn mend_words(alloc: Global, network: &Network, trial: &Trial) -> Result<String,
     format!(in alloc; "free {words}")
 }
 
-// The line of a pair of changes that free it, without its LF.
+/// The line of a pair of changes that free it, without its LF.
 fn pair_words(alloc: Global, network: &Network, pair: &Pair) -> Result<String, AllocError>
     ensures { IfOk result (λ s. string_bytes s ≡ pair_words network.now pair.now) }
 {
@@ -189,7 +189,7 @@ fn pair_words(alloc: Global, network: &Network, pair: &Pair) -> Result<String, A
     format!(in alloc; "free {first} and {second}")
 }
 
-// Changes that free the network together, with their line.
+/// Changes that free the network together, with their line.
 fn told_mend(
     alloc: Global,
     changes: Vec<Value>,
@@ -205,26 +205,26 @@ fn told_mend(
     object_of(alloc, members)
 }
 
-// A single change that frees the network.
+/// A single change that frees the network.
 fn mend_value(alloc: Global, network: &Network, trial: &Trial) -> Result<Value, AllocError>
     ensures { IfOk result (λ v. view v ≡ mend_value network.now trial.now) }
 {
     let mut changes = Vec::new(alloc);
-    add_value(&mut changes, trial_value(alloc, network, trial))?;
+    add_value(trial_value(alloc, network, trial), &mut changes)?;
     told_mend(alloc, changes, mend_words(alloc, network, trial))
 }
 
-// A pair of changes that free it.
+/// A pair of changes that free it.
 fn pair_value(alloc: Global, network: &Network, pair: &Pair) -> Result<Value, AllocError>
     ensures { IfOk result (λ v. view v ≡ pair_value network.now pair.now) }
 {
     let mut changes = Vec::new(alloc);
-    add_value(&mut changes, change_value(alloc, network, &pair.first))?;
-    add_value(&mut changes, change_value(alloc, network, &pair.second))?;
+    add_value(change_value(alloc, network, &pair.first), &mut changes)?;
+    add_value(change_value(alloc, network, &pair.second), &mut changes)?;
     told_mend(alloc, changes, pair_words(alloc, network, pair))
 }
 
-// Adds an object for the limit and the slots that free the network together, if there are such.
+/// Adds an object for the limit and the slots that free the network together, if there are such.
 fn add_limiting(
     alloc: Global,
     network: &Network,
@@ -237,13 +237,13 @@ fn add_limiting(
         Some(limiting) => {
             let changes = limiting_values(alloc, network, limiting)?;
             let mend = told_mend(alloc, changes, limiting_line(alloc, network, limiting));
-            add_value(values, mend)
+            add_value(mend, values)
         }
         None => Ok(()),
     }
 }
 
-// Adds an object for each change.
+/// Adds an object for each change.
 fn add_mends(
     alloc: Global,
     network: &Network,
@@ -253,12 +253,12 @@ fn add_mends(
     ensures { OnOk result (map view values.new.items ≡ map view values.old.items ++ map (mend_value network.now) changes.now) }
 {
     for change in changes {
-        add_value(values, mend_value(alloc, network, change))?;
+        add_value(mend_value(alloc, network, change), values)?;
     }
     Ok(())
 }
 
-// Adds an object for each pair of changes.
+/// Adds an object for each pair of changes.
 fn add_pairs(
     alloc: Global,
     network: &Network,
@@ -268,12 +268,12 @@ fn add_pairs(
     ensures { OnOk result (map view values.new.items ≡ map view values.old.items ++ map (pair_value network.now) pairs.now) }
 {
     for pair in pairs {
-        add_value(values, pair_value(alloc, network, pair))?;
+        add_value(pair_value(alloc, network, pair), values)?;
     }
     Ok(())
 }
 
-// An object for the limit and the slots, then for each change of a part, each pair, and each unit.
+/// An object for the limit and the slots, then for each change of a part, each pair, and each unit.
 fn cure_values(alloc: Global, network: &Network, cures: &Cures) -> Result<Vec<Value>, AllocError>
     ensures { IfOk result (λ v. map view v.items ≡ cure_values network.now cures.now) }
 {
@@ -285,7 +285,7 @@ fn cure_values(alloc: Global, network: &Network, cures: &Cures) -> Result<Vec<Va
     Ok(values)
 }
 
-// All that is told, if there was memory for it.
+/// All that is told, if there was memory for it.
 fn told_mends(alloc: Global, mends: Result<Vec<Value>, AllocError>) -> Result<Value, AllocError>
     ensures { IfOk result (λ v. IsOkAnd mends (λ m. view v ≡ mends_value (map view m.items))) }
 {
@@ -297,7 +297,7 @@ fn told_mends(alloc: Global, mends: Result<Vec<Value>, AllocError>) -> Result<Va
     object_of(alloc, members)
 }
 
-// The verdict that a flow is not well routed.
+/// The verdict that a flow is not well routed.
 fn misrouted_value(
     alloc: Global,
     network: &Network,

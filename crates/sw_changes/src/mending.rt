@@ -34,7 +34,7 @@ pub struct Cures {
     pub units: Vec<Trial>,
 }
 
-// The pairs that free the network, if they are to be looked for.
+/// The pairs that free the network, if they are to be looked for.
 fn pairs_if<W: VerdictWorkers>(
     workers: &W,
     alloc: Global,
@@ -49,7 +49,7 @@ fn pairs_if<W: VerdictWorkers>(
     Ok(Some(pair_mends(workers, alloc, network)?))
 }
 
-// What frees the network, with pairs asked for or not.
+/// What frees the network, with pairs asked for or not.
 fn find_cures<W: VerdictWorkers>(
     workers: &W,
     alloc: Global,
@@ -71,7 +71,7 @@ fn find_cures<W: VerdictWorkers>(
     })
 }
 
-// What is found by the verdict on the network.
+/// What is found by the verdict on the network.
 fn by_verdict<W: VerdictWorkers>(
     workers: &W,
     alloc: Global,
@@ -102,8 +102,8 @@ fn by_verdict<W: VerdictWorkers>(
 pub fn find_mending<W: VerdictWorkers>(
     workers: &W,
     alloc: Global,
-    pairs: bool,
     network: &Network,
+    pairs: bool,
 ) -> Result<Mending, AllocError>
     ensures { IfOk result (IsMending pairs network.now) }
 {

@@ -92,7 +92,7 @@ impl NetworkBuilder {
         ensures part { result ≡ position (bytes_eq name.now) (part_names self.now) }
         ensures within { IfSome result (λ i. i < length self.now.nodes + length self.now.switches) }
     {
-        self.names.place_of(name)
+        self.names.index_of(name)
     }
 
     /// Adds a node of a new name, which is an RMAP target if `target` says how it answers. At most `outstanding` of its commands may be
@@ -199,7 +199,7 @@ impl NetworkBuilder {
             switches,
             links,
         } = self;
-        match joined(wiring, alloc, nodes.len()) {
+        match join(wiring, alloc, nodes.len()) {
             Ok((topology, limits)) => Ok(Network {
                 topology,
                 names,
@@ -219,7 +219,7 @@ impl NetworkBuilder {
 }
 
 /// How the parts are joined, and the limits of so many nodes before any flow.
-fn joined(wiring: Builder, alloc: Global, nodes: usize) -> Result<(Topology, LimitTable), TopoError>
+fn join(wiring: Builder, alloc: Global, nodes: usize) -> Result<(Topology, LimitTable), TopoError>
     ensures topology { IfOk result (λ made. checked wiring ≡ Ok made.0) }
     ensures limits { IfOk result (λ made. made.1 ≡ no_limits nodes) }
     ensures refused { IfErr result (λ refused. Finishes (Err refused) wiring) }

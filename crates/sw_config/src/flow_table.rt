@@ -58,7 +58,7 @@ impl FlowTable {
         ensures number { result ≡ position (bytes_eq name.now) (flow_names self.now) }
         ensures within { IfSome result (λ i. i < length self.now) }
     {
-        self.names.place_of(name)
+        self.names.index_of(name)
     }
 
     /// Adds a flow of a new name at the end.

@@ -31,7 +31,7 @@ impl NameTable {
     }
 
     /// The place of the name.
-    pub(crate) fn place_of(&self, name: &str) -> Option<usize>
+    pub(crate) fn index_of(&self, name: &str) -> Option<usize>
         ensures place { result ≡ position (bytes_eq name.now) self.now }
         ensures within { IfSome result (λ i. i < length self.now) }
     {

@@ -167,7 +167,7 @@ impl Network {
         ensures node { result ≡ position (bytes_eq name.now) (map (λ e. e.name) self.now.nodes) }
         ensures within { IfSome result (λ n. n < length self.now.nodes) }
     {
-        let Some(place) = self.names.place_of(name) else {
+        let Some(place) = self.names.index_of(name) else {
             return None;
         };
         if place < self.nodes.len() {

@@ -1,5 +1,6 @@
 -- What an engine has done that told what was found of a network file.
 use Rattle.std.proofs.Common.{◌≡◌, ◌⊎◌, ℕ, List, inl, inr, refl, subst, sym}
+use Rattle.std.proofs.KnownBytes.{Keeps-refl}
 use Rattle.std.specs.Prelude.{Err, IfOk, None, Ok, Option, Result, Some}
 use Rattle.std.specs.declared.alloc.AllocError.{AllocError}
 use Rattle.sw_config.specs.Entries.{Declaration}
@@ -31,6 +32,11 @@ told_of_file memory P (Faulty text fault) answer old new end read met is = told_
 told_of_file memory P TooLong answer old new end read met is = told_or memory P answer old new end met is
 told_of_file memory P Unread answer old new end read met is = absurd (read refl)
 told_of_file memory P NoMemory answer old new end read met is = told_or memory P answer old new end met is
+
+-- of one that was not read nothing was told
+pub told_of_unread : (memory : List ℕ) (P : Answers) (file : NetworkFile) (old : Option (List ℕ)) (end : Ended) → file ≡ Unread → end ≡ ended.ReadFailed
+    → IsFileTold memory P file old old end
+told_of_unread memory P file old end unread failed = subst (λ (f : NetworkFile). IsFileTold memory P f old old end) (sym unread) (failed, Keeps-refl old)
 
 -- ---- of what a reader gave
 

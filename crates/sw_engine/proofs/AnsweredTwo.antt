@@ -82,11 +82,11 @@ module _ {X : Type 0} (Finds : Option (List ℕ) → Declaration → X → Type 
         subst (λ (e : Ended). EndsByTwo memory to_two first first_after second second_after old new e) (sym is.0) is.1
     ends_by_files NoMemory findings end read holds is = told_two NoMemory findings end read holds is
 
-    -- the same, where the second text is known by another name
+    -- the same, where what was found is told of the second text by another name
     pub ends_by_text : (text : Option (List ℕ)) (file : NetworkFile) (findings : Findings X) (end : Ended) → text ≡ second_given input
         → AreFilesRead first first_after second second_after file input → HoldsOfFound (Finds text) (network_of file) findings
-        → IsFileTold memory (AnswersToFile (Tells text) (Faults text) (Long text) file findings) file old new end
+        → IsFileTold memory (to_read file findings) file old new end
         → EndsByTwo memory to_two first first_after second second_after old new end
     ends_by_text text file findings end same read holds told =
         ends_by_files file findings end read (subst (λ (t : Option (List ℕ)). HoldsOfFound (Finds t) (network_of file) findings) same holds)
-        (subst (λ (t : Option (List ℕ)). IsFileTold memory (AnswersToFile (Tells t) (Faults t) (Long t) file findings) file old new end) same told)
+        told

@@ -34,21 +34,6 @@ impl<X: Drop> CommandEnd<X> {
         }
     }
 
-    /// The end of a command of which a file to be written can't be made, and which read nothing.
-    pub fn of_unwritten() -> CommandEnd<X>
-        ensures ended { result.ended ≡ Ended.WriteFailed }
-        ensures file { result.file ≡ NetworkFile.Unread }
-        ensures second { result.second ≡ None }
-        ensures found { result.found ≡ None }
-    {
-        CommandEnd {
-            ended: Ended::WriteFailed,
-            file: NetworkFile::Unread,
-            second: None,
-            found: None,
-        }
-    }
-
     /// How it ended, alone.
     pub fn into_ended(self) -> Ended
         ensures { result ≡ self.ended }

@@ -30,7 +30,7 @@ pub trait Form<X: Finding> {
     /// # Errors
     ///
     /// There is no memory for it.
-    fn long(&self, alloc: Global, second: Option<&[u8]>) -> Result<ByteAnswer, AllocError>
+    fn long_answer(&self, alloc: Global, second: Option<&[u8]>) -> Result<ByteAnswer, AllocError>
         ensures { IfOk result (λ answer. long self.now (option_map (λ s. s.now) second.entry) (answer.text.items) answer.status) };
 
     /// What answers a text that has this fault.
@@ -38,7 +38,7 @@ pub trait Form<X: Finding> {
     /// # Errors
     ///
     /// There is no memory for it.
-    fn faulty(
+    fn fault_answer(
         &self,
         alloc: Global,
         second: Option<&[u8]>,
@@ -52,7 +52,7 @@ pub trait Form<X: Finding> {
     /// # Errors
     ///
     /// There is no memory for it.
-    fn found(
+    fn finding_answer(
         &self,
         alloc: Global,
         second: Option<&[u8]>,

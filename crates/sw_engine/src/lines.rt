@@ -50,11 +50,11 @@ impl<X: AsLines> Form<X> for Lines {
         tell_memory(writer)
     }
 
-    fn long(&self, alloc: Global, _second: Option<&[u8]>) -> Result<ByteAnswer, AllocError> {
+    fn long_answer(&self, alloc: Global, _second: Option<&[u8]>) -> Result<ByteAnswer, AllocError> {
         Ok(Answer::of_long_text(alloc)?.into_bytes())
     }
 
-    fn faulty(
+    fn fault_answer(
         &self,
         alloc: Global,
         _second: Option<&[u8]>,
@@ -64,7 +64,7 @@ impl<X: AsLines> Form<X> for Lines {
         Ok(Answer::of_fault(alloc, fault)?.into_bytes())
     }
 
-    fn found(
+    fn finding_answer(
         &self,
         alloc: Global,
         _second: Option<&[u8]>,

@@ -12,12 +12,12 @@ use sw_flow::Place;
 use sw_output::{node_name, switch_name};
 use sw_topo::{Chan, PlaceEnd};
 
-// Adds the node, or the port's field of the switch, behind what stands before it.
+/// Adds the node, or the port's field of the switch, behind what stands before it.
 fn add_end(
-    text: &mut String,
     before: &str,
     network: &Network,
     end: PlaceEnd,
+    text: &mut String,
 ) -> Result<(), AllocError>
     ensures { OnOk result (string_bytes text.new ≡ string_bytes text.old ++ (before.now ++ end_text network.now end)) }
 {
@@ -36,21 +36,21 @@ fn add_end(
 
 /// Adds an edge with what is told of the channel.
 pub(crate) fn add_channel(
-    text: &mut String,
     network: &Network,
     places: &[Place],
     cycle: &[Chan],
     numbers: &[u16],
     number: u16,
+    text: &mut String,
 ) -> Result<(), AllocError>
     requires { number < length (wiring_of network.now).ends }
     ensures { OnOk result (string_bytes text.new ≡ string_bytes text.old ++ channel_statement network.now (drawn_over places.now cycle.now numbers.now) number) }
 {
     let channel = Chan::new(number);
     let topology = network.topology();
-    add_end(text, "  ", network, topology.start_of(channel))?;
-    add_end(text, " -> ", network, topology.end_of(channel))?;
-    let on_flow = add_flow_mark(text, places, channel)?;
-    let marked = add_step_mark(text, cycle, channel, on_flow)?;
-    end_marks(text, numbers, channel, marked)
+    add_end("  ", network, topology.start_of(channel), text)?;
+    add_end(" -> ", network, topology.end_of(channel), text)?;
+    let on_flow = add_flow_mark(places, channel, text)?;
+    let marked = add_step_mark(cycle, channel, on_flow, text)?;
+    end_marks(numbers, channel, marked, text)
 }

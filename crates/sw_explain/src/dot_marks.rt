@@ -10,9 +10,9 @@ use sw_topo::Chan;
 
 /// Adds that a channel of the flow is bold, and its number. Gives whether anything is added.
 pub(crate) fn add_flow_mark(
-    text: &mut String,
     places: &[Place],
     channel: Chan,
+    text: &mut String,
 ) -> Result<bool, AllocError>
     ensures { IfOk result (λ begun. IsBegun (string_bytes text.old) (string_bytes text.new) (flow_attributes places.now channel) begun) }
 {
@@ -26,7 +26,7 @@ pub(crate) fn add_flow_mark(
     Ok(false)
 }
 
-// What stands before an attribute: the first one opens the brackets.
+/// What stands before an attribute: the first one opens the brackets.
 fn opening(begun: bool) -> &'static str
     ensures { result.now ≡ opening begun }
 {
@@ -35,10 +35,10 @@ fn opening(begun: bool) -> &'static str
 
 /// Adds that a step of the cycle is red, and its number, behind other attributes if there are any. Gives whether there are any then.
 pub(crate) fn add_step_mark(
-    text: &mut String,
     cycle: &[Chan],
     channel: Chan,
     begun: bool,
+    text: &mut String,
 ) -> Result<bool, AllocError>
     ensures { IfOk result (λ more. (start : List ℕ) (list : List AttributeText) → IsBegun start (string_bytes text.old) list begun → IsBegun start (string_bytes text.new) (list ++ cycle_attributes cycle.now channel) more) }
 {
@@ -58,10 +58,10 @@ pub(crate) fn add_step_mark(
 
 /// Adds the channel's number in the certificate, behind other attributes if there are any, and ends the line.
 pub(crate) fn end_marks(
-    text: &mut String,
     numbers: &[u16],
     channel: Chan,
     begun: bool,
+    text: &mut String,
 ) -> Result<(), AllocError>
     ensures { OnOk result ((start : List ℕ) (list : List AttributeText) → IsBegun start (string_bytes text.old) list begun → string_bytes text.new ≡ start ++ (attributes_text (list ++ number_attributes numbers.now channel) ++ codes ";\n")) }
 {

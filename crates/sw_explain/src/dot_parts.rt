@@ -8,7 +8,7 @@ use sw_config::Network;
 use sw_output::{linked_ports, node_name, switch_name};
 
 /// Adds a box, with two lines round it for a target.
-pub(crate) fn add_node(text: &mut String, network: &Network, node: u16) -> Result<(), AllocError>
+pub(crate) fn add_node(network: &Network, node: u16, text: &mut String) -> Result<(), AllocError>
     requires { node < length network.now.nodes }
     ensures { OnOk result (string_bytes text.new ≡ string_bytes text.old ++ node_statement network.now node) }
 {
@@ -21,10 +21,10 @@ pub(crate) fn add_node(text: &mut String, network: &Network, node: u16) -> Resul
 
 /// Adds a record of the switch's name and its ports that have a link, each a field with its own name.
 pub(crate) fn add_switch(
-    text: &mut String,
     alloc: Global,
     network: &Network,
     switch: u16,
+    text: &mut String,
 ) -> Result<(), AllocError>
     requires { switch < length network.now.switches }
     ensures { OnOk result (string_bytes text.new ≡ string_bytes text.old ++ switch_statement network.now switch) }

@@ -23,13 +23,13 @@ pub(crate) fn draw_text(
 {
     let mut text = String::from_str(alloc, "digraph network {\n  node [shape=\"box\"];\n")?;
     for node in 0..network.nodes() {
-        add_node(&mut text, network, node)?;
+        add_node(network, node, &mut text)?;
     }
     for switch in 0..network.switches() {
-        add_switch(&mut text, alloc, network, switch)?;
+        add_switch(alloc, network, switch, &mut text)?;
     }
     for number in 0..network.channels() {
-        add_channel(&mut text, network, places, cycle, numbers, number)?;
+        add_channel(network, places, cycle, numbers, number, &mut text)?;
     }
     text.push_str("}\n")?;
     Ok(text)

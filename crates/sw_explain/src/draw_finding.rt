@@ -60,7 +60,7 @@ impl AsLines for DrawFinding {
 }
 
 impl DrawFinding {
-    // The drawing, or that no flow has the name.
+    /// The drawing, or that no flow has the name.
     fn text(&self, alloc: Global, network: &Network) -> Result<String, AllocError>
         ensures { IfOk result (λ text. string_bytes text ≡ draw_lines network.now self.now) }
     {
@@ -79,7 +79,7 @@ impl DrawFinding {
     }
 }
 
-// The shortest cycle of the first tangle.
+/// The shortest cycle of the first tangle.
 fn first_cycle(tangles: &[Tangle]) -> &[Chan]
     ensures { result.now ≡ first_cycle tangles.now }
 {
@@ -89,7 +89,7 @@ fn first_cycle(tangles: &[Tangle]) -> &[Chan]
     }
 }
 
-// The numbers of the verdict's certificate, where there is one.
+/// The numbers of the verdict's certificate, where there is one.
 fn numbers_of(verdict: &Verdict) -> &[u16]
     ensures { result.now ≡ numbers_of verdict.now }
 {
@@ -99,7 +99,7 @@ fn numbers_of(verdict: &Verdict) -> &[u16]
     }
 }
 
-// The cycle that is drawn, if one is asked for.
+/// The cycle that is drawn, if one is asked for.
 fn cycle_drawn<T: VerdictWorkers>(
     workers: &T,
     alloc: Global,
@@ -116,7 +116,7 @@ fn cycle_drawn<T: VerdictWorkers>(
     first_cycle(&tangles).to_vec(alloc)
 }
 
-// The numbers that are drawn, if they are asked for. A cycle shows already that there are none.
+/// The numbers that are drawn, if they are asked for. A cycle shows already that there are none.
 fn numbers_drawn<T: VerdictWorkers>(
     workers: &T,
     alloc: Global,
@@ -138,7 +138,7 @@ fn numbers_drawn<T: VerdictWorkers>(
     numbers_of(&verdict).to_vec(alloc)
 }
 
-// With these places of a flow, and what else is asked for.
+/// With these places of a flow, and what else is asked for.
 fn drawn_with<T: VerdictWorkers>(
     workers: &T,
     alloc: Global,
@@ -157,7 +157,7 @@ fn drawn_with<T: VerdictWorkers>(
     }))
 }
 
-// What is found of a network.
+/// What is found of a network.
 fn find<T: VerdictWorkers>(
     workers: &T,
     alloc: Global,
@@ -198,11 +198,5 @@ pub fn draw<T: VerdictWorkers, R: Read, F: Form<DrawFinding>, W: Write>(
         Some(network) => Some(find(workers, alloc, network, options)),
         None => None,
     };
-    let ended = tell_found(form, alloc, &file, None, &found, writer);
-    CommandEnd {
-        ended,
-        file,
-        second: None,
-        found,
-    }
+    tell_found(alloc, file, None, found, form, writer)
 }

@@ -16,7 +16,7 @@ use std::alloc::{AllocError, Global};
 use std::io::{Read, Write};
 use sw_config::Network;
 use sw_engine::{AsLines, CommandEnd, Finding, Form, read_network_file, tell_found};
-use sw_json::{AsValue, CommandOutcome, SecondFile};
+use sw_json::{CommandOutcome, SecondFile, Values};
 use sw_search::{Explanation, VerdictWorkers};
 
 /// What `explain` finds of a network, and how much of it is to be told.
@@ -47,31 +47,37 @@ impl AsLines for ExplainFinding {
     }
 }
 
-impl AsValue for ExplainFinding {
+/// How what is found by `explain` is told as values of JSON.
+#[derive(Clone, Copy)]
+pub struct ExplainValues;
+
+impl Values<ExplainFinding> for ExplainValues {
     ghost command = { codes "explain" };
 
-    ghost results_of = { λ _ _ d f. IsCommandOutcome (explain_value d f.explanation) (explain_status f.explanation) };
+    ghost results_of = { λ _ _ _ d f. IsCommandOutcome (explain_value d f.explanation) (explain_status f.explanation) };
 
-    fn command() -> &'static str {
+    fn command(&self) -> &'static str {
         "explain"
     }
 
     fn outcome(
         &self,
         alloc: Global,
+        _path: &str,
         _second: SecondFile<'_>,
         network: &Network,
+        found: &ExplainFinding,
     ) -> Result<CommandOutcome, AllocError> {
         explanations_are_plain();
-        let result = explain_value(alloc, network, &self.explanation)?;
-        let status = explain_status(&self.explanation);
+        let result = explain_value(alloc, network, &found.explanation)?;
+        let status = explain_status(&found.explanation);
         Ok(CommandOutcome { result, status })
     }
 
-    ghost result_has_status = { λ _ _ _ _ _ _ is. is.1 };
+    ghost result_has_status = { λ _ _ _ _ _ _ _ is. is.1 };
 }
 
-// What is found of a network.
+/// What is found of a network.
 fn find<T: VerdictWorkers>(
     workers: &T,
     alloc: Global,
@@ -106,11 +112,5 @@ pub fn explain<T: VerdictWorkers, R: Read, F: Form<ExplainFinding>, W: Write>(
         Some(network) => Some(find(workers, alloc, network, all)),
         None => None,
     };
-    let ended = tell_found(form, alloc, &file, None, &found, writer);
-    CommandEnd {
-        ended,
-        file,
-        second: None,
-        found,
-    }
+    tell_found(alloc, file, None, found, form, writer)
 }

@@ -22,7 +22,7 @@ use sw_output::{flow_name, node_name};
 use sw_search::{Explanation, Tangle};
 use sw_topo::Chan;
 
-// What is wrong at the last of the places that a flow's packets go over, and the values of these.
+/// What is wrong at the last of the places that a flow's packets go over, and the values of these.
 fn wrong_value(
     alloc: Global,
     network: &Network,
@@ -46,7 +46,7 @@ fn wrong_value(
     object_of(alloc, members)
 }
 
-// The node whose target makes a channel wait for the next, or null where flows do.
+/// The node whose target makes a channel wait for the next, or null where flows do.
 fn target_value<'a>(network: &'a Network, cause: &Cause) -> Member<'a>
     ensures { member_value result ≡ target_value network.now (cause_of cause.now) }
 {
@@ -56,7 +56,7 @@ fn target_value<'a>(network: &'a Network, cause: &Cause) -> Member<'a>
     }
 }
 
-// How many commands may be unanswered at the target: null where any number may, and where flows make a channel wait.
+/// How many commands may be unanswered at the target: null where any number may, and where flows make a channel wait.
 fn limit_value(network: &Network, cause: &Cause) -> Member<'static>
     ensures { member_value result ≡ limit_value network.now (cause_of cause.now) }
 {
@@ -69,7 +69,7 @@ fn limit_value(network: &Network, cause: &Cause) -> Member<'static>
     }
 }
 
-// How many replies the target may owe: null where flows make a channel wait.
+/// How many replies the target may owe: null where flows make a channel wait.
 fn slots_value(network: &Network, cause: &Cause) -> Member<'static>
     ensures { member_value result ≡ slots_value network.now (cause_of cause.now) }
 {
@@ -82,7 +82,7 @@ fn slots_value(network: &Network, cause: &Cause) -> Member<'static>
     }
 }
 
-// A channel of a cycle, and what makes it wait for the next.
+/// A channel of a cycle, and what makes it wait for the next.
 fn step_value(
     alloc: Global,
     network: &Network,
@@ -109,7 +109,7 @@ fn step_value(
     object_of(alloc, members)
 }
 
-// An object for each channel of a cycle.
+/// An object for each channel of a cycle.
 fn step_values(
     alloc: Global,
     network: &Network,
@@ -125,12 +125,12 @@ fn step_values(
     let mut values = Vec::new(alloc);
     for (i, channel) in channels.iter().enumerate() {
         let value = step_value(alloc, network, *channel, &causes[i], &flows[i]);
-        add_value(&mut values, value)?;
+        add_value(value, &mut values)?;
     }
     Ok(values)
 }
 
-// A tangle, with its shortest cycle.
+/// A tangle, with its shortest cycle.
 fn tangle_value(alloc: Global, network: &Network, tangle: &Tangle) -> Result<Value, AllocError>
     requires { IsOfChannels network.now tangle.now }
     ensures { IfOk result (λ v. view v ≡ tangle_value network.now tangle.now) }
@@ -150,7 +150,7 @@ fn tangle_value(alloc: Global, network: &Network, tangle: &Tangle) -> Result<Val
     object_of(alloc, members)
 }
 
-// An object for each tangle.
+/// An object for each tangle.
 fn tangle_values(
     alloc: Global,
     network: &Network,
@@ -161,12 +161,12 @@ fn tangle_values(
 {
     let mut values = Vec::new(alloc);
     for tangle in tangles {
-        add_value(&mut values, tangle_value(alloc, network, tangle))?;
+        add_value(tangle_value(alloc, network, tangle), &mut values)?;
     }
     Ok(values)
 }
 
-// Channels that can wait for one another in circles.
+/// Channels that can wait for one another in circles.
 fn tangles_value(alloc: Global, network: &Network, tangles: &[Tangle]) -> Result<Value, AllocError>
     requires { IsTangled network.now tangles.now }
     ensures { IfOk result (λ v. view v ≡ tangles_value network.now tangles.now) }

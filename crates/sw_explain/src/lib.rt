@@ -19,7 +19,7 @@ mod words;
 
 pub use draw_finding::{DrawFinding, Drawing, draw};
 pub use draw_options::DrawOptions;
-pub use explain_finding::{ExplainFinding, explain};
+pub use explain_finding::{ExplainFinding, ExplainValues, explain};
 pub use route_texts::fault_words;
 pub use step_texts::{add_names, names_text};
-pub use words::{ending, numbered};
+pub use words::ending;

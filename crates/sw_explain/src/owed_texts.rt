@@ -3,7 +3,7 @@ ghost use Rattle.std.specs.Prelude.{◌≡◌, ◌<◌, ◌++◌, codes, length,
 ghost use Rattle.sw_config.specs.Entries.{all_flows};
 ghost use Rattle.sw_explain.specs.ExplainTexts.{allowed_text, is_number_told, joined, name_and_limit, owed_text, own_limit, replies_noun, replies_text, slots_at, told_commands};
 
-use crate::step_texts::{add_more, named};
+use crate::step_texts::{add_more, flows_to_name};
 use crate::words::ending;
 use std::alloc::{AllocError, Global};
 use std::fmt::Write;
@@ -23,7 +23,7 @@ pub fn slots_at(network: &Network, node: u16) -> Option<u8>
     }
 }
 
-// Is it a flow of commands to the node that is told of there: any, or where the node has no limit one that is not limited?
+/// Is it a flow of commands to the node that is told of there: any, or where the node has no limit one that is not limited?
 fn is_told(network: &Network, node: u16, flow: u16) -> bool
     requires { flow < length (all_flows network.now) }
     ensures { result ≡ is_number_told network.now node flow }
@@ -32,7 +32,7 @@ fn is_told(network: &Network, node: u16, flow: u16) -> bool
     answered && (network.limit_at(node).is_some() || !network.is_limited(flow))
 }
 
-// The flows of commands to the node that are told of there.
+/// The flows of commands to the node that are told of there.
 fn told_commands(alloc: Global, network: &Network, node: u16) -> Result<Vec<u16>, AllocError>
     ensures { IfOk result (λ v. v.items ≡ told_commands network.now node) }
 {
@@ -46,7 +46,7 @@ fn told_commands(alloc: Global, network: &Network, node: u16) -> Result<Vec<u16>
     Ok(flows)
 }
 
-// How many commands of the flow may be unanswered, if it has a limit of its own.
+/// How many commands of the flow may be unanswered, if it has a limit of its own.
 fn own_limit(network: &Network, flow: u16) -> Option<u16>
     ensures { result ≡ own_limit network.now flow }
 {
@@ -59,8 +59,8 @@ fn own_limit(network: &Network, flow: u16) -> Option<u16>
     }
 }
 
-// Adds a flow's name behind what stands before it, and its own limit.
-fn add_name(text: &mut String, network: &Network, before: &str, flow: u16) -> Result<(), AllocError>
+/// Adds a flow's name behind what stands before it, and its own limit.
+fn add_name(network: &Network, before: &str, flow: u16, text: &mut String) -> Result<(), AllocError>
     ensures { OnOk result (string_bytes text.new ≡ string_bytes text.old ++ (before.now ++ name_and_limit network.now flow)) }
 {
     let name = flow_name(network, flow);
@@ -70,30 +70,30 @@ fn add_name(text: &mut String, network: &Network, before: &str, flow: u16) -> Re
     }
 }
 
-// Adds the names of flows and their own limits, with a comma between each two.
-fn add_names(text: &mut String, network: &Network, flows: &[u16]) -> Result<(), AllocError>
+/// Adds the names of flows and their own limits, with a comma between each two.
+fn add_names(network: &Network, flows: &[u16], text: &mut String) -> Result<(), AllocError>
     ensures { OnOk result (string_bytes text.new ≡ string_bytes text.old ++ joined (name_and_limit network.now) (codes ", ") flows.now) }
 {
     match flows {
         [] => Ok(()),
         [first, rest @ ..] => {
-            add_name(text, network, "", *first)?;
+            add_name(network, "", *first, text)?;
             for flow in rest {
-                add_name(text, network, ", ", *flow)?;
+                add_name(network, ", ", *flow, text)?;
             }
             Ok(())
         }
     }
 }
 
-// The noun of so many replies.
+/// The noun of so many replies.
 fn replies(count: u8) -> &'static str
     ensures { result.now ≡ replies_noun count }
 {
     if count == 1 { "reply" } else { "replies" }
 }
 
-// How many replies a target owes when it takes nothing, and how many commands may be unanswered there.
+/// How many replies a target owes when it takes nothing, and how many commands may be unanswered there.
 fn owed_words(alloc: Global, slots: u8, limit: Option<u32>) -> Result<String, AllocError>
     ensures { IfOk result (λ s. string_bytes s ≡ replies_text slots ++ (codes ": " ++ (allowed_text limit ++ codes " ("))) }
 {
@@ -118,10 +118,10 @@ pub(crate) fn owed_text(
     ensures { IfOk result (λ s. string_bytes s ≡ owed_text network.now all node) }
 {
     let flows = told_commands(alloc, network, node)?;
-    let named = named(&flows, all);
+    let named = flows_to_name(&flows, all);
     let slots = slots_at(network, node).unwrap_or(1);
     let mut text = owed_words(alloc, slots, network.limit_at(node))?;
-    add_names(&mut text, network, named)?;
-    add_more(&mut text, flows.len() - named.len(), ")")?;
+    add_names(network, named, &mut text)?;
+    add_more(flows.len() - named.len(), ")", &mut text)?;
     Ok(text)
 }

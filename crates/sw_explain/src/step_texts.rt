@@ -41,7 +41,7 @@ pub(crate) fn step_parts<'a>(
 }
 
 /// What is waited for: the next channel, or that a target owes less than so many replies.
-pub(crate) fn awaited(
+pub(crate) fn wait_text(
     alloc: Global,
     network: &Network,
     all: bool,
@@ -58,7 +58,7 @@ pub(crate) fn awaited(
 }
 
 /// The flows that are named.
-pub(crate) fn named(flows: &[u16], all: bool) -> &[u16]
+pub(crate) fn flows_to_name(flows: &[u16], all: bool) -> &[u16]
     ensures is { result.now ≡ named all flows.now }
     ensures most { length result.now ≤ length flows.now }
 {
@@ -77,10 +77,10 @@ pub(crate) fn named(flows: &[u16], all: bool) -> &[u16]
 ///
 /// There is no memory for a longer text.
 pub fn add_names(
-    text: &mut String,
     network: &Network,
     between: &str,
     flows: &[u16],
+    text: &mut String,
 ) -> Result<(), AllocError>
     ensures { OnOk result (string_bytes text.new ≡ string_bytes text.old ++ joined_names network.now between.now flows.now) }
 {
@@ -106,16 +106,16 @@ pub fn names_text(alloc: Global, network: &Network, flows: &[u16]) -> Result<Str
     ensures { IfOk result (λ s. string_bytes s ≡ names_text network.now flows.now) }
 {
     let mut text = String::new(alloc);
-    add_names(&mut text, network, ", ", flows)?;
+    add_names(network, ", ", flows, &mut text)?;
     Ok(text)
 }
 
 /// Adds all flows that make a step, where there are two or more, and ends the line.
 pub(crate) fn end_step_line(
-    text: &mut String,
     network: &Network,
     flows: &[u16],
     all: bool,
+    text: &mut String,
 ) -> Result<(), AllocError>
     ensures { OnOk result (string_bytes text.new ≡ string_bytes text.old ++ (flows_text network.now all flows.now ++ codes "\n")) }
 {
@@ -123,14 +123,14 @@ pub(crate) fn end_step_line(
     if count < 2 {
         return text.push_str("\n");
     }
-    let named = named(flows, all);
+    let named = flows_to_name(flows, all);
     text.push_str(" (flows ")?;
-    add_names(text, network, ", ", named)?;
-    add_more(text, count - named.len(), ")\n")
+    add_names(network, ", ", named, text)?;
+    add_more(count - named.len(), ")\n", text)
 }
 
 /// Adds how many more there are, if any, and what ends the list.
-pub(crate) fn add_more(text: &mut String, more: usize, end: &str) -> Result<(), AllocError>
+pub(crate) fn add_more(more: usize, end: &str, text: &mut String) -> Result<(), AllocError>
     ensures { OnOk result (string_bytes text.new ≡ string_bytes text.old ++ (more_text more ++ end.now)) }
 {
     if more == 0 {

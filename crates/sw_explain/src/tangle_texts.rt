@@ -4,7 +4,7 @@ ghost use Rattle.sw_config.specs.Entries.{wiring_of};
 ghost use Rattle.sw_search.specs.Explanations.{IsTangled};
 ghost use Rattle.sw_explain.specs.ExplainTexts.{counts_text, step_line, tangle_text, tangles_text, IsOfChannels};
 
-use crate::step_texts::{awaited, end_step_line, step_parts};
+use crate::step_texts::{end_step_line, step_parts, wait_text};
 use crate::words::ending;
 use std::alloc::{AllocError, Global};
 use std::fmt::Write;
@@ -17,15 +17,15 @@ use sw_search::Tangle;
 const UNCHANGED: &str =
     " channels; buffers and arbiters do not change this, limits on unanswered commands may\n";
 
-// Adds the line of that channel of the cycle: the step from it to the next one, by its cause, and the flows that make it.
+/// Adds the line of that channel of the cycle: the step from it to the next one, by its cause, and the flows that make it.
 fn add_step_line(
-    text: &mut String,
     alloc: Global,
     network: &Network,
     all: bool,
     cycle: &Cycle,
     flows: &[Vec<u16>],
     i: usize,
+    text: &mut String,
 ) -> Result<(), AllocError>
     requires within { All (λ c. c < length (wiring_of network.now).ends) cycle.now.channels }
     requires caused { length cycle.now.causes ≡ length cycle.now.channels }
@@ -38,22 +38,22 @@ fn add_step_line(
     let from = channel_text(alloc, network, channels[i])?;
     let next = channels[number % channels.len()];
     let cause = &cycle.causes[i];
-    let awaited = awaited(alloc, network, all, next, cause)?;
+    let awaited = wait_text(alloc, network, all, next, cause)?;
     let (before, name, held, wanted) = step_parts(network, cause);
     write!(
         text,
         "{number}. {before}{name}{held}{from}{wanted}{awaited}"
     )?;
-    end_step_line(text, network, &flows[i], all)
+    end_step_line(network, &flows[i], all, text)
 }
 
-// Adds the shortest cycle of a tangle.
+/// Adds the shortest cycle of a tangle.
 fn add_tangle(
-    text: &mut String,
     alloc: Global,
     network: &Network,
     all: bool,
     tangle: &Tangle,
+    text: &mut String,
 ) -> Result<(), AllocError>
     requires { IsOfChannels network.now tangle.now }
     ensures { OnOk result (string_bytes text.new ≡ string_bytes text.old ++ tangle_text network.now all tangle.now) }
@@ -62,13 +62,13 @@ fn add_tangle(
     let ending = ending(count);
     write!(text, "shortest cycle: {count} channel{ending}\n")?;
     for i in 0..count {
-        add_step_line(text, alloc, network, all, &tangle.cycle, &tangle.flows, i)?;
+        add_step_line(alloc, network, all, &tangle.cycle, &tangle.flows, i, text)?;
     }
     Ok(())
 }
 
-// Adds how many channels each tangle has, with a comma between each two.
-fn add_counts(text: &mut String, tangles: &[Tangle]) -> Result<(), AllocError>
+/// Adds how many channels each tangle has, with a comma between each two.
+fn add_counts(tangles: &[Tangle], text: &mut String) -> Result<(), AllocError>
     ensures { OnOk result (string_bytes text.new ≡ string_bytes text.old ++ counts_text tangles.now) }
 {
     match tangles {
@@ -101,10 +101,10 @@ pub(crate) fn tangles_text(
     let ending = ending(total);
     let mut text = String::new(alloc);
     for tangle in tangles {
-        add_tangle(&mut text, alloc, network, all, tangle)?;
+        add_tangle(alloc, network, all, tangle, &mut text)?;
     }
     write!(text, "{total} tangle{ending} of ")?;
-    add_counts(&mut text, tangles)?;
+    add_counts(tangles, &mut text)?;
     text.push_str(UNCHANGED)?;
     Ok(text)
 }

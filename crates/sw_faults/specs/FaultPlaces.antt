@@ -11,7 +11,9 @@ use Rattle.sw_text.specs.declared.keys.Section.TheVariants as section
 use Rattle.sw_text.specs.declared.fault.KeyFault.TheVariants.{MissingKey}
 use Rattle.sw_text.specs.declared.fault.TextFault.{TextFault}
 use Rattle.sw_text.specs.declared.fault.TextFault.TheVariants.{Syntax, UnknownKey, Key, Topology, DuplicateRoute, ReplyShape, NotInFlow}
+use Rattle.sw_text.specs.declared.sections.Standing.{Standing}
 use Rattle.sw_text.specs.Keys.{key_text}
+use Rattle.sw_text.specs.Sections.{standing}
 use Rattle.sw_faults.specs.declared.sought.Sought.{Sought}
 use Rattle.sw_faults.specs.Places.{IsPlace}
 
@@ -24,10 +26,15 @@ sought_view s = (s.section, option_map (λ k. k.now) s.key)
 
 -- of an entry its beginning, of a table in an entry its key; the document begins with the text
 abbrev pub table_to_show : Section → Option Shown
-table_to_show section.Document = None
-table_to_show (section.Target i) = Some (section.Node i, Some (key_text key.Target))
-table_to_show (section.Reply i) = Some (section.Flow i, Some (key_text key.Reply))
-table_to_show s = Some (s, None)
+table_to_show s = shown_of s (standing s)
+  where
+    by_number : Section → Standing → Option ℕ → Option Shown
+    by_number s place None = Some (place.within, Some (key_text place.key))
+    by_number s place (Some number) = Some (s, None)
+
+    shown_of : Section → Option Standing → Option Shown
+    shown_of s None = None
+    shown_of s (Some place) = by_number s place place.number
 
 abbrev pub long_list : Limit → TableKey
 long_list Nodes = key.Node

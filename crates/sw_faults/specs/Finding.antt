@@ -10,13 +10,13 @@ places_from test n [] = []
 places_from test n (table ∷ tables) = if test table then n ∷ places_from test (suc n) tables else places_from test (suc n) tables
 
 -- the places of the entries of a list of a table that pass
-abbrev pub places_of : (Members → Bool) → Key → Members → List ℕ
-places_of test list table = places_from test 0 (tables_of list table)
+abbrev pub indices_of : (Members → Bool) → Key → Members → List ℕ
+indices_of test list table = places_from test 0 (tables_of list table)
 
 abbrev pub first : List ℕ → Option ℕ
 first [] = None
 first (place ∷ places) = Some place
 
 -- the place of the first that passes
-abbrev pub first_place : (Members → Bool) → Key → Members → Option ℕ
-first_place test list table = first (places_of test list table)
+abbrev pub first_index : (Members → Bool) → Key → Members → Option ℕ
+first_index test list table = first (indices_of test list table)

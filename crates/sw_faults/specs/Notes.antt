@@ -15,7 +15,7 @@ use Rattle.sw_faults.specs.Lookup.{table_of}
 use Rattle.sw_faults.specs.declared.note.Note.{Note}
 use Rattle.sw_faults.specs.declared.note.Note.TheVariants.{HasName, Unlinked, LinkHere, HasPort, IsFor}
 use Rattle.sw_faults.specs.Entries.{number_in, range_in, text_in, text_of}
-use Rattle.sw_faults.specs.Finding.{first_place, places_of}
+use Rattle.sw_faults.specs.Finding.{first_index, indices_of}
 use Rattle.sw_faults.specs.Passing.{has_end, is_at, overlaps}
 use Rattle.sw_faults.specs.ReplyNotes.{named, reply_notes}
 
@@ -45,7 +45,7 @@ end_of end port_key link document = option_and_then (end_in end port_key) (table
 
 -- the first link that has the port of this end of a link
 abbrev pub first_at : TableKey → TableKey → ℕ → Members → Option ℕ
-first_at end port_key link document = option_and_then (λ e. first_place (has_end e.0 e.1) key.Link document) (end_of end port_key link document)
+first_at end port_key link document = option_and_then (λ e. first_index (has_end e.0 e.1) key.Link document) (end_of end port_key link document)
 
 -- the place, if it is before this one
 abbrev pub earlier : ℕ → Option ℕ → Option ℕ
@@ -65,7 +65,7 @@ range_of switch route document = option_and_then range_in (table_of (section.Rou
 
 -- the first entry of a switch's routing table that is for an address from the first to the last
 abbrev pub first_for : ℕ → ℕ → ℕ → Members → Option ℕ
-first_for switch first last document = option_and_then (first_place (overlaps first last) key.Route) (table_of (section.Switch switch) document)
+first_for switch first last document = option_and_then (first_index (overlaps first last) key.Route) (table_of (section.Switch switch) document)
 
 -- which addresses an entry is for
 abbrev pub is_for : ℕ → ℕ → Members → Option Note
@@ -87,7 +87,7 @@ node_notes node document = of_name (text_of (section.Node node) key.Name documen
   where
     of_name : Option (List ℕ) → Members → List Note
     of_name None document = []
-    of_name (Some name) document = link_notes (places_of (is_at name) key.Link document)
+    of_name (Some name) document = link_notes (indices_of (is_at name) key.Link document)
 
 abbrev pub topology_notes : TopoFault → Members → List Note
 topology_notes (TooMany limit) document = []

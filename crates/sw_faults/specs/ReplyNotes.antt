@@ -8,12 +8,12 @@ use Rattle.sw_faults.specs.Lookup.{table_of}
 use Rattle.sw_faults.specs.declared.note.Note.{Note}
 use Rattle.sw_faults.specs.declared.note.Note.TheVariants.{LongPath, LeadingZero, NoInitiator, NoTarget}
 use Rattle.sw_faults.specs.Entries.{bytes_in, number_in, text_of}
-use Rattle.sw_faults.specs.Finding.{first_place}
+use Rattle.sw_faults.specs.Finding.{first_index}
 use Rattle.sw_faults.specs.Passing.{is_named}
 
 -- the first entry of a list of the document that has this name
 abbrev pub named : Key → List ℕ → Members → Option ℕ
-named list name document = first_place (is_named name) list document
+named list name document = first_index (is_named name) list document
 
 -- the path begins with 0
 abbrev pub is_zero_led : List ℕ → Bool

@@ -58,7 +58,7 @@ pub(crate) fn text_in(table: &Table, key: Key) -> Option<&str>
     }
 }
 
-// The number that a value is, if it is one of these.
+/// The number that a value is, if it is one of these.
 fn number_of(value: &Value, low: u64, high: u64) -> Option<u64>
     ensures { result ≡ option_and_then (in_range low high) (as_integer (view value.now)) }
 {

@@ -6,7 +6,7 @@ use hex::encode_upper;
 use std::alloc::{AllocError, Global};
 use std::fmt::Write;
 
-// Adds a byte as it is shown.
+/// Adds a byte as it is shown.
 fn add_shown(alloc: Global, byte: u8, text: &mut String) -> Result<(), AllocError>
     ensures { IfOk result (λ _. string_bytes text.new ≡ string_bytes text.old ++ shown_byte byte) }
 {
@@ -22,7 +22,7 @@ fn add_shown(alloc: Global, byte: u8, text: &mut String) -> Result<(), AllocErro
 /// # Errors
 ///
 /// There is no memory for the text.
-pub fn shown(alloc: Global, bytes: &[u8]) -> Result<String, AllocError>
+pub fn show(alloc: Global, bytes: &[u8]) -> Result<String, AllocError>
     ensures { IfOk result (λ s. string_bytes s ≡ shown bytes.now) }
 {
     let mut text = String::new(alloc);

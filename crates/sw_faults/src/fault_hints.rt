@@ -2,8 +2,8 @@
 ghost use Rattle.std.specs.Prelude.{◌≤◌, IfOk, length};
 ghost use Rattle.sw_faults.specs.FaultHints.{IsAtFault};
 
-use crate::escaped::shown;
-use crate::fault_places::fault_place;
+use crate::escaped::show;
+use crate::fault_offsets::fault_offset;
 use crate::hint::Hint;
 use crate::key_words::words_version;
 use crate::line_column::position_at;
@@ -19,7 +19,7 @@ use toml::Table;
 /// The most bytes of a text's line that are shown.
 const MOST_FOUND: usize = 72;
 
-// Where the first line of a text ends.
+/// Where the first line of a text ends.
 fn line_end(text: &[u8]) -> usize
     ensures { result ≤ length text.now }
 {
@@ -31,7 +31,8 @@ fn line_end(text: &[u8]) -> usize
     text.len()
 }
 
-/// What stands at an offset of a text: the rest of its line, at most 72 bytes, as a terminal shows them.
+/// What stands at an offset of a text: the rest of its line, at most 72 bytes, as a terminal shows
+/// them.
 ///
 /// # Errors
 ///
@@ -41,7 +42,7 @@ pub fn found_at(alloc: Global, text: &[u8], at: usize) -> Result<String, AllocEr
 {
     let rest = &text[at..];
     let line = &rest[..line_end(rest)];
-    shown(alloc, &line[..MOST_FOUND.min(line.len())])
+    show(alloc, &line[..MOST_FOUND.min(line.len())])
 }
 
 /// Says where a fault of a text stands, what stands there, and what is wrong with it.
@@ -52,7 +53,7 @@ pub fn found_at(alloc: Global, text: &[u8], at: usize) -> Result<String, AllocEr
 pub fn hint_at_fault(alloc: Global, text: &[u8], fault: &TextFault) -> Result<Hint, AllocError>
     ensures { IfOk result (λ h. IsAtFault text.now fault.now h.line h.column) }
 {
-    let place = fault_place(alloc, text, fault)?;
+    let place = fault_offset(alloc, text, fault)?;
     let hint = Hint::new(alloc, what_text(alloc, fault)?);
     let Some(at) = place else {
         return Ok(hint);
@@ -66,7 +67,7 @@ pub fn hint_at_fault(alloc: Global, text: &[u8], fault: &TextFault) -> Result<Hi
     })
 }
 
-// What else has to do with the fault.
+/// What else has to do with the fault.
 fn note_texts(
     alloc: Global,
     text: &[u8],
@@ -80,8 +81,8 @@ fn note_texts(
     Ok(texts)
 }
 
-/// The hint of a fault of a network file: where it stands, what stands there, what would be right, what to do, and which other entries have to do
-/// with it.
+/// The hint of a fault of a network file: where it stands, what stands there, what would be right,
+/// what to do, and which other entries have to do with it.
 ///
 /// # Errors
 ///

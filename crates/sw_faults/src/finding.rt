@@ -1,7 +1,7 @@
 //! Which entries of a list pass.
 ghost use Rattle.std.specs.Prelude.{◌≡◌, IfOk};
 ghost use Rattle.toml.specs.View.{table_view};
-ghost use Rattle.sw_faults.specs.Finding.{first_place, places_of};
+ghost use Rattle.sw_faults.specs.Finding.{first_index, indices_of};
 ghost use Rattle.sw_faults.specs.Passing.{passes};
 
 use crate::entries::tables_of;
@@ -11,13 +11,13 @@ use sw_text::Key;
 use toml::Table;
 
 /// The places of the entries of a list of a table that pass.
-pub(crate) fn places_of(
+pub(crate) fn indices_of(
     alloc: Global,
     table: &Table,
     list: Key,
     test: &Test<'_>,
 ) -> Result<Vec<usize>, AllocError>
-    ensures { IfOk result (λ v. v.items ≡ places_of (passes test.now) list (table_view table.now)) }
+    ensures { IfOk result (λ v. v.items ≡ indices_of (passes test.now) list (table_view table.now)) }
 {
     let tables = tables_of(alloc, table, list)?;
     let mut places = Vec::new(alloc);
@@ -31,15 +31,15 @@ pub(crate) fn places_of(
 }
 
 /// The place of the first entry of a list of a table that passes.
-pub(crate) fn first_place(
+pub(crate) fn first_index(
     alloc: Global,
     table: &Table,
     list: Key,
     test: &Test<'_>,
 ) -> Result<Option<usize>, AllocError>
-    ensures { IfOk result (λ o. o ≡ first_place (passes test.now) list (table_view table.now)) }
+    ensures { IfOk result (λ o. o ≡ first_index (passes test.now) list (table_view table.now)) }
 {
-    let places = places_of(alloc, table, list, test)?;
+    let places = indices_of(alloc, table, list, test)?;
     match places.as_slice() {
         [] => Ok(None),
         [place, ..] => Ok(Some(*place)),

@@ -1,7 +1,7 @@
 //! Hints: what is said, for a person, of a fault of a text or of how a call ended.
 ghost use Rattle.std.specs.Prelude.{◌≡◌, None};
 
-use crate::escaped::shown;
+use crate::escaped::show;
 use std::alloc::{AllocError, Global};
 
 /// What is said, for a person, of a fault of a text or of how a call ended. Of a part that is empty nothing is said.
@@ -58,10 +58,10 @@ impl Hint {
         format!(in alloc; "{head}{steps}{found}{expected}{help}{notes}")
     }
 
-    // Where, and what is the matter.
+    /// Where, and what is the matter.
     fn head(&self, alloc: Global, name: &str) -> Result<String, AllocError> {
-        let name = shown(alloc, name.as_bytes())?;
-        let what = shown(alloc, self.what.as_bytes())?;
+        let name = show(alloc, name.as_bytes())?;
+        let what = show(alloc, self.what.as_bytes())?;
         match (self.line, self.column) {
             (Some(line), Some(column)) => format!(in alloc; "{name}:{line}:{column}: {what}\n"),
             (Some(line), None) => format!(in alloc; "{name}:{line}: {what}\n"),
@@ -70,12 +70,12 @@ impl Hint {
     }
 }
 
-// An indented line, none where there is nothing to say.
+/// An indented line, none where there is nothing to say.
 fn line_of(alloc: Global, name: &str, words: &str) -> Result<String, AllocError> {
     if words.is_empty() {
         return Ok(String::new(alloc));
     }
-    let words = shown(alloc, words.as_bytes())?;
+    let words = show(alloc, words.as_bytes())?;
     format!(in alloc; "  {name}: {words}\n")
 }
 

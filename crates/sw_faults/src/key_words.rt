@@ -3,14 +3,11 @@ use crate::made::Made;
 use crate::unread::text_fault;
 use std::alloc::Global;
 use sw_file::declared_version;
-use sw_file::keys::{
-    DOCUMENT_KEYS, FLOW_KEYS, SWITCH_KEYS, link_keys, node_keys, reply_keys, route_keys,
-    target_keys,
-};
 use sw_text::{Key, Section, Version};
 use toml::Table;
 
-/// By the words of which version a fault of the document is told: of version 3 where it is of that version, else of version 2.
+/// By the words of which version a fault of the document is told: of version 3 where it is of that
+/// version, else of version 2.
 pub(crate) fn words_version(alloc: Global, document: &Table) -> Made<Version> {
     match declared_version(alloc, document) {
         Ok(Version::Three) => Ok(Version::Three),
@@ -22,29 +19,9 @@ pub(crate) fn words_version(alloc: Global, document: &Table) -> Made<Version> {
     }
 }
 
-/// Is one of the keys written so?
-pub(crate) fn is_one_of(keys: &[Key], name: &str) -> bool {
-    keys.iter().any(|key| key.text() == name)
-}
-
 /// The keys as a file writes them.
 pub(crate) fn key_texts(alloc: Global, keys: &[Key]) -> Made<Vec<&'static str>> {
     keys.iter().map(|key| key.text()).collect(alloc)
-}
-
-/// The keys of a table, those of this version too.
-pub(crate) fn keys_of(version: Version, section: Section) -> &'static [Key] {
-    match section {
-        Section::Document => DOCUMENT_KEYS,
-        Section::Node(_) => node_keys(version),
-        Section::Target(_) => target_keys(version),
-        Section::Switch(_) => SWITCH_KEYS,
-        Section::Route(_, _) => route_keys(version),
-        Section::Link(_) => link_keys(version),
-        Section::Flow(_) => FLOW_KEYS,
-        Section::Reply(_) => reply_keys(version),
-        Section::Packet(_) => &[Key::Flow, Key::Cargo, Key::End, Key::Count],
-    }
 }
 
 /// What may stand at a key of a table, by the words of this version.

@@ -2,9 +2,9 @@
 ghost use Rattle.std.specs.Prelude.{◌≡◌, option_and_then, option_map};
 ghost use Rattle.toml.specs.Data.{get_member};
 ghost use Rattle.toml.specs.View.{table_view, view};
-ghost use Rattle.sw_faults.specs.Lookup.{entry_of, inner_of, table_of, value_of};
+ghost use Rattle.sw_faults.specs.Lookup.{entry_of, inner_of, table_at, table_of, value_of};
 
-use sw_text::{Key, Section};
+use sw_text::{Key, Section, Standing};
 use toml::{Table, Value};
 
 /// What stands at this key of a table, if there is one.
@@ -17,7 +17,7 @@ pub(crate) fn member_of<'a>(table: Option<&'a Table>, key: &str) -> Option<&'a V
     }
 }
 
-// The table at a key of a table, if there is one.
+/// The table at a key of a table, if there is one.
 fn inner_of(table: Option<&Table>, key: Key) -> Option<&Table>
     ensures { option_map (λ t. table_view t.now) result ≡ option_and_then (inner_of key) (option_map (λ t. table_view t.now) table.entry) }
 {
@@ -27,7 +27,7 @@ fn inner_of(table: Option<&Table>, key: Key) -> Option<&Table>
     }
 }
 
-// The table at a place of the list at a key of a table, if there is one.
+/// The table at a place of the list at a key of a table, if there is one.
 fn entry_of(table: Option<&Table>, key: Key, number: usize) -> Option<&Table>
     ensures { option_map (λ t. table_view t.now) result ≡ option_and_then (entry_of key number) (option_map (λ t. table_view t.now) table.entry) }
 {
@@ -40,21 +40,27 @@ fn entry_of(table: Option<&Table>, key: Key, number: usize) -> Option<&Table>
     }
 }
 
+/// The table that stands so in a table, if there is one.
+fn table_at(table: Option<&Table>, place: Standing) -> Option<&Table>
+    ensures { option_map (λ t. table_view t.now) result ≡ option_and_then (table_at place) (option_map (λ t. table_view t.now) table.entry) }
+{
+    match place.number {
+        Some(number) => entry_of(table, place.key, number),
+        None => inner_of(table, place.key),
+    }
+}
+
 /// The table of a section, where the document has one.
 pub(crate) fn table_of(document: &Table, section: Section) -> Option<&Table>
     ensures { option_map (λ t. table_view t.now) result ≡ table_of section (table_view document.now) }
 {
     let all = Some(document);
-    match section {
-        Section::Document => all,
-        Section::Node(i) => entry_of(all, Key::Node, i),
-        Section::Target(i) => inner_of(entry_of(all, Key::Node, i), Key::Target),
-        Section::Switch(i) => entry_of(all, Key::Switch, i),
-        Section::Route(i, j) => entry_of(entry_of(all, Key::Switch, i), Key::Route, j),
-        Section::Link(i) => entry_of(all, Key::Link, i),
-        Section::Flow(i) => entry_of(all, Key::Flow, i),
-        Section::Reply(i) => inner_of(entry_of(all, Key::Flow, i), Key::Reply),
-        Section::Packet(i) => entry_of(all, Key::Packet, i),
+    let Some(place) = section.standing() else {
+        return all;
+    };
+    match place.within.standing() {
+        Some(outer) => table_at(table_at(all, outer), place),
+        None => table_at(all, place),
     }
 }
 

@@ -8,7 +8,7 @@ use strsim::levenshtein;
 /// The most bytes of a name that is compared: no key and no name has so many.
 const MOST_COMPARED: usize = 64;
 
-// Whether so many single changes lead from one text to the other, and not all of the text is changed.
+/// Whether so many single changes lead from one text to the other, and not all of the text is changed.
 fn is_near(alloc: Global, name: &str, count: usize, text: &str) -> Result<bool, AllocError>
     ensures { IfOk result (λ b. b ≡ is_near name.now count text.now) }
 {
@@ -21,7 +21,7 @@ fn is_near(alloc: Global, name: &str, count: usize, text: &str) -> Result<bool, 
     Ok(levenshtein(alloc, name, text)? == count)
 }
 
-// The first of the texts that is at this distance.
+/// The first of the texts that is at this distance.
 fn first_at<'a>(
     alloc: Global,
     name: &str,

@@ -2,27 +2,12 @@
 use crate::line_column::{Position, position_at};
 use crate::made::Made;
 use crate::note::Note;
-use crate::place::place_of;
+use crate::offset::offset_of;
 use crate::sought::Sought;
 use std::alloc::Global;
 use sw_text::Section;
 
-// A table of a file, by its number.
-fn entry_text(alloc: Global, section: Section) -> Made<String> {
-    match section {
-        Section::Document => String::from_str(alloc, "the document"),
-        Section::Node(i) => format!(in alloc; "node {i}"),
-        Section::Target(i) => format!(in alloc; "node {i} target"),
-        Section::Switch(i) => format!(in alloc; "switch {i}"),
-        Section::Route(i, j) => format!(in alloc; "switch {i} route {j}"),
-        Section::Link(i) => format!(in alloc; "link {i}"),
-        Section::Flow(i) => format!(in alloc; "flow {i}"),
-        Section::Reply(i) => format!(in alloc; "flow {i} reply"),
-        Section::Packet(i) => format!(in alloc; "packet {i}"),
-    }
-}
-
-// The entry that a note is of, and what is noted.
+/// The entry that a note is of, and what is noted.
 fn entry_and_words(alloc: Global, note: Note) -> (Option<Section>, Made<String>) {
     let text = |words: &str| String::from_str(alloc, words);
     match note {
@@ -50,15 +35,16 @@ fn entry_and_words(alloc: Global, note: Note) -> (Option<Section>, Made<String>)
     }
 }
 
-/// A note in words: the entry, with the line and column where it stands, if that is found, and what is noted.
+/// A note in words: the entry, with the line and column where it stands, if that is found, and what
+/// is noted.
 pub(crate) fn note_text(alloc: Global, text: &[u8], note: Note) -> Made<String> {
     let (entry, words) = entry_and_words(alloc, note);
     let words = words?;
     let Some(section) = entry else {
         return Ok(words);
     };
-    let entry = entry_text(alloc, section)?;
-    let Some(at) = place_of(alloc, text, Sought { section, key: None })? else {
+    let entry = section.text(alloc)?;
+    let Some(at) = offset_of(alloc, text, Sought { section, key: None })? else {
         return format!(in alloc; "{entry} {words}");
     };
     let Position { line, column } = position_at(text, at);

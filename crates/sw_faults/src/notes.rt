@@ -5,7 +5,7 @@ ghost use Rattle.sw_faults.specs.Notes.{entry_in, first_at, holder, link_notes, 
 ghost use Rattle.sw_faults.specs.ReplyNotes.{named};
 
 use crate::entries::{number_in, range_in, text_in, text_of};
-use crate::finding::{first_place, places_of};
+use crate::finding::{first_index, indices_of};
 use crate::lookup::table_of;
 use crate::note::{Note, add_note};
 use crate::passing::Test;
@@ -19,7 +19,7 @@ use toml::Table;
 /// The most links of a node that are noted.
 const MOST_LINKS: usize = 8;
 
-// The first node, switch or flow of the name, as an entry.
+/// The first node, switch or flow of the name, as an entry.
 fn entry_named(
     alloc: Global,
     document: &Table,
@@ -28,7 +28,7 @@ fn entry_named(
 ) -> Result<Option<Section>, AllocError>
     ensures { IfOk result (λ o. o ≡ option_map (entry_in list) (named list name.now (table_view document.now))) }
 {
-    let Some(number) = first_place(alloc, document, list, &Test::Named(name))? else {
+    let Some(number) = first_index(alloc, document, list, &Test::Named(name))? else {
         return Ok(None);
     };
     match list {
@@ -38,7 +38,7 @@ fn entry_named(
     }
 }
 
-// The entry that has a name of this entry's set already.
+/// The entry that has a name of this entry's set already.
 fn holder(
     alloc: Global,
     document: &Table,
@@ -58,7 +58,7 @@ fn holder(
     }
 }
 
-// Adds which entry has the name of this one already.
+/// Adds which entry has the name of this one already.
 fn add_holder(
     alloc: Global,
     document: &Table,
@@ -76,7 +76,7 @@ fn add_holder(
     }
 }
 
-// The first link that has the port of this end of a link.
+/// The first link that has the port of this end of a link.
 fn first_at(
     alloc: Global,
     document: &Table,
@@ -93,12 +93,12 @@ fn first_at(
         return Ok(None);
     };
     match number_in(table, port_key, 0, MAX_PORT) {
-        Some(port) => first_place(alloc, document, Key::Link, &Test::HasPort(name, port)),
+        Some(port) => first_index(alloc, document, Key::Link, &Test::HasPort(name, port)),
         None => Ok(None),
     }
 }
 
-// Adds which link has the port of an end of this one already.
+/// Adds which link has the port of an end of this one already.
 fn add_port(
     alloc: Global,
     document: &Table,
@@ -117,7 +117,7 @@ fn add_port(
     }
 }
 
-// The first and the last address of an entry of a routing table.
+/// The first and the last address of an entry of a routing table.
 fn range_of(document: &Table, switch: usize, route: usize) -> Option<(u64, u64)>
     ensures { result ≡ range_of switch route (table_view document.now) }
 {
@@ -127,7 +127,7 @@ fn range_of(document: &Table, switch: usize, route: usize) -> Option<(u64, u64)>
     }
 }
 
-// Adds which entry is for an address of this one already, and which addresses it is for.
+/// Adds which entry is for an address of this one already, and which addresses it is for.
 fn add_route(
     alloc: Global,
     document: &Table,
@@ -144,7 +144,7 @@ fn add_route(
         return Ok(());
     };
     let overlaps = Test::Overlaps(first, last);
-    let Some(other) = first_place(alloc, table, Key::Route, &overlaps)? else {
+    let Some(other) = first_index(alloc, table, Key::Route, &overlaps)? else {
         return Ok(());
     };
     match range_of(document, switch, other) {
@@ -153,7 +153,7 @@ fn add_route(
     }
 }
 
-// Adds the links that are at a node, or that there is none.
+/// Adds the links that are at a node, or that there is none.
 fn add_links(links: &[usize], notes: &mut Vec<Note>) -> Result<(), AllocError>
     ensures { IfOk result (λ _. notes.new.items ≡ notes.old.items ++ link_notes links.now) }
 {
@@ -167,7 +167,7 @@ fn add_links(links: &[usize], notes: &mut Vec<Note>) -> Result<(), AllocError>
     Ok(())
 }
 
-// Adds the links that are at the node of this number.
+/// Adds the links that are at the node of this number.
 fn add_node(
     alloc: Global,
     document: &Table,
@@ -178,14 +178,14 @@ fn add_node(
 {
     match text_of(document, Section::Node(node), Key::Name) {
         Some(name) => {
-            let links = places_of(alloc, document, Key::Link, &Test::IsAt(name))?;
+            let links = indices_of(alloc, document, Key::Link, &Test::IsAt(name))?;
             add_links(&links, notes)
         }
         None => Ok(()),
     }
 }
 
-// Adds what there is to note of a fault.
+/// Adds what there is to note of a fault.
 fn add_notes(
     alloc: Global,
     document: &Table,

@@ -21,7 +21,7 @@ pub(crate) enum Test<'a> {
     Overlaps(u64, u64),
 }
 
-// Whether this text stands at a key.
+/// Whether this text stands at a key.
 fn has_text(table: &Table, key: Key, text: &str) -> bool
     ensures { result ≡ has_text key text.now (table_view table.now) }
 {
@@ -31,7 +31,7 @@ fn has_text(table: &Table, key: Key, text: &str) -> bool
     }
 }
 
-// Whether this port stands at a key.
+/// Whether this port stands at a key.
 fn has_number(table: &Table, key: Key, port: u64) -> bool
     ensures { result ≡ has_number key port (table_view table.now) }
 {

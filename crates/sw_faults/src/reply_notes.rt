@@ -6,7 +6,7 @@ ghost use Rattle.sw_faults.specs.Entries.{bytes_in};
 ghost use Rattle.sw_faults.specs.ReplyNotes.{path_notes, reply_notes, table_notes};
 
 use crate::entries::{number_in, text_of};
-use crate::finding::first_place;
+use crate::finding::first_index;
 use crate::lookup::table_of;
 use crate::note::{Note, add_note};
 use crate::passing::Test;
@@ -16,7 +16,7 @@ use sw_text::{Key, Section, TableEntry};
 use sw_topo::limits::{FIRST_LOGICAL, LAST_LOGICAL, MAX_REPLY_PATH};
 use toml::Table;
 
-// Adds what is wrong with the path in the table of the replies.
+/// Adds what is wrong with the path in the table of the replies.
 fn add_path(alloc: Global, reply: &Table, notes: &mut Vec<Note>) -> Result<(), AllocError>
     ensures { IfOk result (λ _. notes.new.items ≡ notes.old.items ++ path_notes (bytes_in Path (table_view reply.now))) }
 {
@@ -37,7 +37,7 @@ fn add_path(alloc: Global, reply: &Table, notes: &mut Vec<Note>) -> Result<(), A
     }
 }
 
-// Adds what is wrong in the table of the replies, where there is one.
+/// Adds what is wrong in the table of the replies, where there is one.
 fn add_shape(alloc: Global, reply: Option<&Table>, notes: &mut Vec<Note>) -> Result<(), AllocError>
     ensures { IfOk result (λ _. notes.new.items ≡ notes.old.items ++ table_notes (option_map (λ t. table_view t.now) reply.entry)) }
 {
@@ -70,7 +70,7 @@ pub(crate) fn add_reply(
     let Some(name) = text_of(document, Section::Flow(flow), Key::To) else {
         return Ok(());
     };
-    let Some(node) = first_place(alloc, document, Key::Node, &Test::Named(name))? else {
+    let Some(node) = first_index(alloc, document, Key::Node, &Test::Named(name))? else {
         return Ok(());
     };
     match table_of(document, Section::Target(node)) {

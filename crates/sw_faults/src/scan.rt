@@ -1,6 +1,6 @@
 //! A scan of a text that proposes a place. What it proposes is checked by `place`: no claim rests on it.
-use crate::frame::Frame;
-use crate::header::{Headers, NO_HEADERS};
+use crate::frame::{Frame, Headers};
+use crate::made::Made;
 use crate::sought::Sought;
 use std::alloc::Global;
 use sw_text::Section;
@@ -43,7 +43,7 @@ struct TextScan<'s> {
 }
 
 impl TextScan<'_> {
-    // The piece that begins at this rest of the text, and which leaves so many brackets more open.
+    /// The piece that begins at this rest of the text, and which leaves so many brackets more open.
     fn piece(&self, rest: &str, opened: usize) -> Piece {
         let before = self.frames.len();
         Piece {
@@ -53,28 +53,29 @@ impl TextScan<'_> {
         }
     }
 
-    // Begins a piece at a table, or at a key of it, if that is sought and none was begun.
+    /// Begins a piece at a table, or at a key of it, if that is sought and none was begun.
     fn begin(&mut self, section: Option<Section>, key: Option<&str>, piece: Piece) {
         if self.begun.is_none() && self.sought.key == key && section == Some(self.sought.section) {
             self.begun = Some(piece);
         }
     }
 
-    // The table that a key leads to, from a table on. Begins a piece at its last part, if that is sought. `opens`: it opens an entry.
-    fn reached(
+    /// The table that a key leads to, from a table on. Begins a piece at its last part, if that is
+    /// sought. `opens`: it opens an entry.
+    fn reach(
         &mut self,
         section: Option<Section>,
         key: &Key,
         piece: Piece,
         opens: bool,
-    ) -> Option<Section> {
+    ) -> Made<Option<Section>> {
         let mut parent = section;
         for part in &key.path {
-            parent = self.headers.entered(parent, part.as_str(), false);
+            parent = self.headers.enter(parent, part.as_str(), false)?;
         }
         let last = key.last.as_str();
         self.begin(parent, Some(last), piece);
-        self.headers.entered(parent, last, opens)
+        self.headers.enter(parent, last, opens)
     }
 
     /// Notes a bracket as open, and hands on what stands behind it.
@@ -83,7 +84,7 @@ impl TextScan<'_> {
         Ok(behind)
     }
 
-    // Reads the beginning of a value, or all of it.
+    /// Reads the beginning of a value, or all of it.
     fn value<'t>(&mut self, section: Option<Section>, rest: &'t str) -> Rest<'t> {
         let byte = first(rest);
         if byte == b'[' {
@@ -100,11 +101,11 @@ impl TextScan<'_> {
         Ok(unquoted(self.alloc, rest)?.1)
     }
 
-    // Reads a key, `=`, and the beginning of the value or all of it.
+    /// Reads a key, `=`, and the beginning of the value or all of it.
     fn member<'t>(&mut self, section: Option<Section>, rest: &'t str) -> Rest<'t> {
         let (key, after) = dotted_key(self.alloc, rest)?;
         let piece = self.piece(rest, 0);
-        let inner = self.reached(section, &key, piece, false);
+        let inner = self.reach(section, &key, piece, false)?;
         if let Some(part) = key.path.first() {
             self.begin(section, Some(part.as_str()), piece);
         }
@@ -123,7 +124,7 @@ impl TextScan<'_> {
             (rest, "]")
         };
         let (key, after) = dotted_key(self.alloc, skip_ws(inner))?;
-        self.section = self.reached(Some(Section::Document), &key, piece, opens);
+        self.section = self.reach(Some(Section::Document), &key, piece, opens)?;
         if opens {
             self.begin(self.section, None, piece);
         }
@@ -133,7 +134,7 @@ impl TextScan<'_> {
         }
     }
 
-    // Reads the next part of the text.
+    /// Reads the next part of the text.
     fn turn<'t>(&mut self, rest: &'t str) -> Rest<'t> {
         let byte = first(rest);
         let Some(frame) = self.frames.last().copied() else {
@@ -142,7 +143,7 @@ impl TextScan<'_> {
             }
             return self.member(self.section, rest);
         };
-        if byte == frame.closing() {
+        if byte == frame.closing_byte() {
             let _ = self.frames.pop();
             return Ok(skip(rest, 1));
         }
@@ -157,8 +158,9 @@ impl TextScan<'_> {
     }
 }
 
-/// The place that a scan of the text meets first for what is sought, and the brackets that are open behind it.
-pub(crate) fn proposed(
+/// The place that a scan of the text meets first for what is sought, and the brackets that are open
+/// behind it.
+pub(crate) fn propose(
     alloc: Global,
     text: &str,
     sought: Sought<'_>,
@@ -167,7 +169,9 @@ pub(crate) fn proposed(
         alloc,
         sought,
         length: text.len(),
-        headers: NO_HEADERS,
+        headers: Headers {
+            last: Vec::new(alloc),
+        },
         section: Some(Section::Document),
         begun: None,
         frames: Vec::new(alloc),

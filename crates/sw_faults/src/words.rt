@@ -1,11 +1,11 @@
 //! What is wrong, what would be right, and what to do, in words.
 use crate::entries::text_of;
-use crate::key_words::{is_one_of, key_texts, keys_of, value_words, words_version};
+use crate::key_words::{key_texts, value_words, words_version};
 use crate::made::Made;
 use crate::names::{add_names, names_of};
 use crate::nearest::meant_help;
 use std::alloc::{AllocError, Global};
-use sw_text::{Key, KeyFault, Section, TextFault, Version, fault_text};
+use sw_text::{Key, KeyFault, Section, TextFault, Version, fault_text, is_known};
 use sw_topo::{Limit, TopoFault};
 use toml::Table;
 
@@ -99,7 +99,7 @@ pub fn expected_text(
 ) -> Result<String, AllocError> {
     match fault {
         TextFault::UnknownKey(section, _) => {
-            let keys = key_texts(alloc, keys_of(version, *section))?;
+            let keys = key_texts(alloc, section.keys(version))?;
             format!(in alloc; "one of {}", keys.join(alloc, ", ")?)
         }
         TextFault::Key(KeyFault::MissingKey, section, key) => {
@@ -113,25 +113,25 @@ pub fn expected_text(
     }
 }
 
-// Has the table this key from this version on, and not in the one before it?
+/// Has the table this key from this version on, and not in the one before it?
 fn is_new_key(before: Version, version: Version, section: Section, name: &str) -> bool {
-    is_one_of(keys_of(version, section), name) && !is_one_of(keys_of(before, section), name)
+    is_known(section.keys(version), name) && !is_known(section.keys(before), name)
 }
 
-// What to do about a key that a table may not have.
+/// What to do about a key that a table may not have.
 fn key_help(alloc: Global, version: Version, section: Section, name: &str) -> Made<String> {
-    let keys = keys_of(version, section);
+    let keys = section.keys(version);
     let outer = match section {
         Section::Packet(_) => &[Key::Packet],
-        _ => keys_of(version, Section::Document),
+        _ => Section::Document.keys(version),
     };
     let words = if is_new_key(Version::One, Version::Two, section, name) {
         "this key is there from version 2 on: write version = 2"
     } else if is_new_key(Version::Two, Version::Three, section, name) {
         "this key is there from version 3 on: write version = 3"
-    } else if is_one_of(keys, name) {
+    } else if is_known(keys, name) {
         "a node has no ports: this key stands beside the name of a switch"
-    } else if is_one_of(outer, name) {
+    } else if is_known(outer, name) {
         "a key that stands below a header, as [[switch]], belongs to that table: write it above the first header"
     } else {
         return meant_help(alloc, name, &key_texts(alloc, keys)?);
@@ -139,7 +139,8 @@ fn key_help(alloc: Global, version: Version, section: Section, name: &str) -> Ma
     String::from_str(alloc, words)
 }
 
-// What to do about the name at this key, which no node has, and where the key is an end of a link no switch either.
+/// What to do about the name at this key, which no node has, and where the key is an end of a link
+/// no switch either.
 fn name_help(alloc: Global, document: &Table, section: Section, key: Key) -> Made<String> {
     let Some(name) = text_of(document, section, key) else {
         return Ok(String::new(alloc));

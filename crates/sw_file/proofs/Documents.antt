@@ -22,7 +22,7 @@ use Rattle.sw_text.specs.Gives.{◌>>=◌, walk}
 use Rattle.sw_text.specs.Table.{only_known, number_at, tables_or_none}
 use Rattle.sw_text.specs.Document.{document_of}
 use Rattle.sw_text.specs.KeyLaws.{HasOnly}
-use Rattle.sw_file.specs.Keys.{document_keys}
+use Rattle.sw_text.specs.SectionKeys.{document_keys}
 use Rattle.sw_file.specs.Nodes.{node_of, next_node}
 use Rattle.sw_file.specs.Switches.{switch_of, next_switch}
 use Rattle.sw_file.specs.Links.{link_of, next_link}

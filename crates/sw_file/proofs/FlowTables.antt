@@ -11,7 +11,7 @@ use Rattle.sw_text.specs.declared.keys.Version.{Version}
 use Rattle.sw_text.specs.declared.fault.KeyFault.TheVariants.{OutOfRange}
 use Rattle.sw_text.specs.declared.fault.TextFault.TheVariants as fault
 use Rattle.sw_text.specs.Table.{only_known, number_at, number_or, number_or_none, numbers_or_none}
-use Rattle.sw_file.specs.Keys.{flow_keys, reply_keys}
+use Rattle.sw_text.specs.SectionKeys.{flow_keys, reply_keys}
 use Rattle.sw_file.specs.Names.{new_name, place_at}
 use Rattle.sw_file.specs.FlowTables.{node_names, address_at, reply_of, reply_or_none, can_reply, addressed, replies_at, flow_of}
 use Rattle.sw_file.specs.Values.{IsNumber, IsTableOf, HasOr, HasIfAny}

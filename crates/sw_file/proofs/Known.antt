@@ -17,7 +17,7 @@ use Rattle.sw_text.specs.Gives.{walk_from}
 use Rattle.sw_text.specs.Table.{only_known, tables_or_none, table_or_none}
 use Rattle.sw_text.specs.KeyLaws.{HasOnly}
 use Rattle.sw_text.proofs.Unknown.{refuses_least_unknown}
-use Rattle.sw_file.specs.Keys.{document_keys, node_keys, target_keys, switch_keys, route_keys, link_keys, flow_keys, reply_keys}
+use Rattle.sw_text.specs.SectionKeys.{document_keys, node_keys, target_keys, switch_keys, route_keys, link_keys, flow_keys, reply_keys}
 use Rattle.sw_file.specs.Nodes.{config_of, target_or_none, node_of}
 use Rattle.sw_file.specs.Switches.{route_of, next_route, routes_at, arbitration_at, switch_of}
 use Rattle.sw_file.specs.Links.{link_of}

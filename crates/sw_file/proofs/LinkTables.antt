@@ -15,7 +15,7 @@ use Rattle.sw_text.specs.declared.fault.TextFault.TheVariants as fault
 use Rattle.sw_text.specs.Keys.{key_text}
 use Rattle.sw_text.specs.Gives.{◌>>=◌}
 use Rattle.sw_text.specs.Table.{only_known, absent, number_at, number_or}
-use Rattle.sw_file.specs.Keys.{link_keys}
+use Rattle.sw_text.specs.SectionKeys.{link_keys}
 use Rattle.sw_file.specs.Names.{place_at}
 use Rattle.sw_file.specs.Links.{end_at, link_of}
 use Rattle.sw_file.specs.Values.{Lacks}

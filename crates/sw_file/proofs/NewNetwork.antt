@@ -23,7 +23,7 @@ use Rattle.sw_text.specs.Keys.{key_text}
 use Rattle.sw_text.specs.Gives.{◌>>=◌, walk, each}
 use Rattle.sw_text.specs.Table.{is_known, only_known, number_at, tables_or_none}
 use Rattle.sw_text.specs.KeyLaws.{HasOnly}
-use Rattle.sw_file.specs.Keys.{document_keys}
+use Rattle.sw_text.specs.SectionKeys.{document_keys}
 use Rattle.sw_file.specs.Nodes.{next_node}
 use Rattle.sw_file.specs.Switches.{next_switch}
 use Rattle.sw_file.specs.Links.{next_link}

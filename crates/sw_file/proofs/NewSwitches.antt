@@ -15,7 +15,7 @@ use Rattle.sw_text.specs.Gives.{each, walk}
 use Rattle.sw_text.specs.Table.{only_known, tables_or_none}
 use Rattle.sw_text.specs.Names.{name_at}
 use Rattle.sw_text.specs.KeyLaws.{HasOnly}
-use Rattle.sw_file.specs.Keys.{switch_keys}
+use Rattle.sw_text.specs.SectionKeys.{switch_keys}
 use Rattle.sw_file.specs.Names.{new_name}
 use Rattle.sw_file.specs.Switches.{arbitration_at, next_route, routes_at, switch_of}
 use Rattle.sw_file.specs.Rows.{Entry, rows}

@@ -17,7 +17,7 @@ use Rattle.sw_text.specs.Keys.{key_text}
 use Rattle.sw_text.specs.Gives.{walk_from}
 use Rattle.sw_text.specs.Table.{only_known, absent, text_at, text_or_none, number_at, number_or, numbers_at, numbers_or_none, tables_or_none, table_or_none, flag_or_false}
 use Rattle.sw_text.specs.Names.{name_at}
-use Rattle.sw_file.specs.Keys.{node_keys, target_keys, switch_keys, route_keys, link_keys, flow_keys, reply_keys}
+use Rattle.sw_text.specs.SectionKeys.{node_keys, target_keys, switch_keys, route_keys, link_keys, flow_keys, reply_keys}
 use Rattle.sw_file.specs.Names.{new_name, place_at}
 use Rattle.sw_file.specs.Nodes.{size_at, config_of, target_or_none, node_of}
 use Rattle.sw_file.specs.Switches.{arbitration_at, ports_at, route_of, next_route, routes_at, switch_of}

@@ -20,7 +20,7 @@ use Rattle.sw_text.specs.declared.fault.TextFault.TheVariants as fault
 use Rattle.sw_text.specs.Keys.{key_text}
 use Rattle.sw_text.specs.Gives.{◌>>=◌, walk_from, walk, each}
 use Rattle.sw_text.specs.Table.{only_known, number_at, numbers_at, tables_or_none, flag_or_false}
-use Rattle.sw_file.specs.Keys.{document_keys}
+use Rattle.sw_text.specs.SectionKeys.{document_keys}
 use Rattle.sw_file.specs.Nodes.{node_of, next_node}
 use Rattle.sw_file.specs.Switches.{switch_of, next_switch}
 use Rattle.sw_file.specs.Links.{link_of, next_link}

@@ -13,7 +13,8 @@ use Rattle.sw_text.specs.declared.keys.Version.{Version}
 use Rattle.sw_text.specs.declared.keys.Version.TheVariants.{One, Two, Three}
 use Rattle.sw_text.specs.Keys.{key_text}
 use Rattle.sw_text.specs.Table.{is_known, item_list}
-use Rattle.sw_file.specs.Keys.{node_keys, target_keys, most_slots, route_keys, link_keys, reply_keys}
+use Rattle.sw_text.specs.SectionKeys.{node_keys, target_keys, route_keys, link_keys, reply_keys}
+use Rattle.sw_file.specs.Keys.{most_slots}
 use Rattle.sw_file.specs.Nodes.{node_of}
 use Rattle.sw_file.specs.Links.{link_of}
 use Rattle.sw_file.specs.FlowTables.{flow_of}

@@ -8,7 +8,7 @@ use Rattle.sw_text.specs.declared.keys.Key.{Key}
 use Rattle.sw_text.specs.declared.keys.Key.TheVariants.{Version as VersionKey, Node, Switch, Link, Flow}
 use Rattle.sw_text.specs.declared.keys.Version.TheVariants.{Two, Three}
 use Rattle.sw_text.specs.Keys.{key_text}
-use Rattle.sw_file.specs.Keys.{document_keys}
+use Rattle.sw_text.specs.SectionKeys.{document_keys}
 use Rattle.sw_file.specs.Values.{HasOr}
 use Rattle.sw_file.specs.Tables.{IsNodeTable, IsSwitchTable, IsLinkTable, IsFlowTable, IsNetworkTable}
 use Rattle.sw_file.specs.Laws.{as_version_three, VersionTwoIsKept}

@@ -19,7 +19,7 @@ use Rattle.sw_text.specs.Keys.{key_text}
 use Rattle.sw_text.specs.Gives.{◌>>=◌, ok_or, each}
 use Rattle.sw_text.specs.Table.{is_known, only_known, required, in_range, item_list, number_value, items_value, numbers_value, number_at, number_or, numbers_at, flag_or_false}
 use Rattle.sw_text.specs.KeyLaws.{HasOnly}
-use Rattle.sw_file.specs.Keys.{route_keys}
+use Rattle.sw_text.specs.SectionKeys.{route_keys}
 use Rattle.sw_file.specs.Switches.{ports_at, route_of}
 use Rattle.sw_file.specs.Rows.{Entry, Row}
 use Rattle.sw_file.specs.Tree.{with_key, entry_of, row_table}

@@ -22,7 +22,7 @@ use Rattle.sw_text.specs.declared.fault.TextFault.TheVariants as fault
 use Rattle.sw_text.specs.Keys.{key_text}
 use Rattle.sw_text.specs.Gives.{◌>>=◌, ok_or, walk}
 use Rattle.sw_text.specs.Table.{only_known, number_at, number_or, numbers_at, tables_or_none, flag_or_false}
-use Rattle.sw_file.specs.Keys.{switch_keys, route_keys}
+use Rattle.sw_text.specs.SectionKeys.{switch_keys, route_keys}
 use Rattle.sw_file.specs.Names.{new_name}
 use Rattle.sw_file.specs.Switches.{arbitration_named, arbitration_at, ports_at, route_of, next_route, routes_at, switch_of}
 use Rattle.sw_file.specs.Values.{HasOr, HasTables}

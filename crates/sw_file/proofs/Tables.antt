@@ -22,7 +22,8 @@ use Rattle.sw_text.specs.Names.{is_name, name_at}
 use Rattle.sw_text.specs.Table.{only_known, text_at, number_at, number_or, number_or_none, absent}
 use Rattle.sw_text.specs.KeyLaws.{HasOnly}
 use Rattle.sw_text.proofs.Unknown.{refuses_least_unknown}
-use Rattle.sw_file.specs.Keys.{node_keys, target_keys, most_slots}
+use Rattle.sw_text.specs.SectionKeys.{node_keys, target_keys}
+use Rattle.sw_file.specs.Keys.{most_slots}
 use Rattle.sw_file.specs.Names.{new_name, place_at}
 use Rattle.sw_file.specs.Nodes.{size_at, config_of, target_or_none, node_of}
 use Rattle.sw_file.specs.Values.{IsNumber, Has}

@@ -14,7 +14,7 @@ use Rattle.sw_text.specs.declared.keys.Version.TheVariants.{One, Two, Three}
 use Rattle.sw_text.specs.KeyLaws.{HasOnly}
 use Rattle.sw_text.specs.Keys.{key_text}
 use Rattle.sw_text.specs.Table.{is_known}
-use Rattle.sw_file.specs.Keys.{node_keys, reply_keys}
+use Rattle.sw_text.specs.SectionKeys.{node_keys, reply_keys}
 use Rattle.sw_file.specs.Values.{HasIfAny, IsTableOf}
 use Rattle.sw_file.specs.Tables.{HasOutstanding, IsFlowTable, IsNodeTable, IsReplyTable, IsNetworkTable}
 use Rattle.sw_file.specs.Laws.{OlderFilesAreUnlimited}

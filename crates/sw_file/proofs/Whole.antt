@@ -19,7 +19,8 @@ use Rattle.sw_text.specs.declared.fault.KeyFault.TheVariants.{OutOfRange}
 use Rattle.sw_text.specs.declared.fault.TextFault.{TextFault}
 use Rattle.sw_text.specs.declared.fault.TextFault.TheVariants as fault
 use Rattle.sw_text.specs.Table.{only_known, absent, text_at, number_at, number_or, number_or_none, table_or_none, flag_or_false}
-use Rattle.sw_file.specs.Keys.{node_keys, target_keys, most_slots, switch_keys, route_keys, link_keys}
+use Rattle.sw_text.specs.SectionKeys.{node_keys, target_keys, switch_keys, route_keys, link_keys}
+use Rattle.sw_file.specs.Keys.{most_slots}
 use Rattle.sw_file.specs.Names.{new_name, place_at}
 use Rattle.sw_file.specs.Nodes.{size_at, config_of, target_or_none, node_of, next_node}
 use Rattle.sw_file.specs.Switches.{arbitration_at, ports_at, route_of, routes_at, switch_of, next_switch}

@@ -11,7 +11,7 @@ use Rattle.sw_text.specs.declared.fault.TextFault.{TextFault}
 use Rattle.sw_text.specs.declared.fault.TextFault.TheVariants as fault
 use Rattle.sw_text.specs.Gives.{◌>>=◌}
 use Rattle.sw_text.specs.Table.{only_known, number_at, number_or, number_or_none, numbers_or_none, table_or_none}
-use Rattle.sw_file.specs.Keys.{flow_keys, reply_keys}
+use Rattle.sw_text.specs.SectionKeys.{flow_keys, reply_keys}
 use Rattle.sw_file.specs.Names.{new_name, place_at}
 
 abbrev pub node_names : List NodeEntry → List (List ℕ)

@@ -13,7 +13,7 @@ use Rattle.sw_text.specs.declared.fault.TextFault.{TextFault}
 use Rattle.sw_text.specs.Table.{tables_or_none, table_or_none}
 use Rattle.sw_text.specs.Names.{is_name}
 use Rattle.sw_text.specs.KeyLaws.{HasOnly}
-use Rattle.sw_file.specs.Keys.{document_keys, node_keys, target_keys, switch_keys, route_keys, link_keys, flow_keys, reply_keys}
+use Rattle.sw_text.specs.SectionKeys.{document_keys, node_keys, target_keys, switch_keys, route_keys, link_keys, flow_keys, reply_keys}
 use Rattle.sw_file.specs.Nodes.{node_of}
 use Rattle.sw_file.specs.Switches.{switch_of}
 use Rattle.sw_file.specs.Links.{link_of}

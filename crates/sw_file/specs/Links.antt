@@ -12,7 +12,7 @@ use Rattle.sw_text.specs.declared.keys.Version.{Version}
 use Rattle.sw_text.specs.declared.fault.TextFault.{TextFault}
 use Rattle.sw_text.specs.Gives.{◌>>=◌}
 use Rattle.sw_text.specs.Table.{only_known, absent, number_at, number_or}
-use Rattle.sw_file.specs.Keys.{link_keys}
+use Rattle.sw_text.specs.SectionKeys.{link_keys}
 use Rattle.sw_file.specs.Names.{place_at}
 
 -- An end of a link, among so many nodes and these names of the nodes and then the switches: a port is unknown beside a node,

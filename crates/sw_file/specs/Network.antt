@@ -19,7 +19,7 @@ use Rattle.sw_text.specs.declared.fault.TextFault.TheVariants as fault
 use Rattle.sw_text.specs.Gives.{◌>>=◌, walk}
 use Rattle.sw_text.specs.Table.{only_known, number_at, tables_or_none}
 use Rattle.sw_text.specs.Document.{document_of}
-use Rattle.sw_file.specs.Keys.{document_keys}
+use Rattle.sw_text.specs.SectionKeys.{document_keys}
 use Rattle.sw_file.specs.Nodes.{next_node}
 use Rattle.sw_file.specs.Switches.{next_switch}
 use Rattle.sw_file.specs.Links.{next_link}

@@ -11,7 +11,8 @@ use Rattle.sw_text.specs.declared.fault.TextFault.{TextFault}
 use Rattle.sw_text.specs.declared.fault.TextFault.TheVariants as fault
 use Rattle.sw_text.specs.Gives.{◌>>=◌}
 use Rattle.sw_text.specs.Table.{only_known, number_at, number_or, number_or_none, table_or_none}
-use Rattle.sw_file.specs.Keys.{node_keys, target_keys, most_slots}
+use Rattle.sw_text.specs.SectionKeys.{node_keys, target_keys}
+use Rattle.sw_file.specs.Keys.{most_slots}
 use Rattle.sw_file.specs.Names.{new_name}
 
 -- how many bytes a target's window has, which ends at 2 ^ 40 at the latest

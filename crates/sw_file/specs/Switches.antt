@@ -18,7 +18,7 @@ use Rattle.sw_text.specs.declared.fault.TextFault.{TextFault}
 use Rattle.sw_text.specs.declared.fault.TextFault.TheVariants as fault
 use Rattle.sw_text.specs.Gives.{◌>>=◌, ok_or, walk}
 use Rattle.sw_text.specs.Table.{only_known, text_or_none, number_at, number_or, numbers_at, tables_or_none, flag_or_false}
-use Rattle.sw_file.specs.Keys.{switch_keys, route_keys}
+use Rattle.sw_text.specs.SectionKeys.{switch_keys, route_keys}
 use Rattle.sw_file.specs.Names.{new_name}
 
 -- the arbitration of that name

@@ -22,7 +22,8 @@ use Rattle.sw_text.specs.declared.keys.Version.TheVariants.{One, Two, Three}
 use Rattle.sw_text.specs.Document.{document_of}
 use Rattle.sw_text.specs.KeyLaws.{HasOnly}
 use Rattle.sw_text.specs.Names.{is_name}
-use Rattle.sw_file.specs.Keys.{document_keys, node_keys, target_keys, most_slots, switch_keys, route_keys, link_keys, flow_keys, reply_keys}
+use Rattle.sw_text.specs.SectionKeys.{document_keys, node_keys, target_keys, switch_keys, route_keys, link_keys, flow_keys, reply_keys}
+use Rattle.sw_file.specs.Keys.{most_slots}
 use Rattle.sw_file.specs.Switches.{arbitration_named}
 use Rattle.sw_file.specs.FlowTables.{node_names}
 use Rattle.sw_file.specs.Values.{IsText, IsFlag, IsNumber, IsListOf, IsTableOf, Lacks, Has, HasOr, HasIfAny, HasTables}

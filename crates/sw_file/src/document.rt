@@ -7,13 +7,13 @@ ghost use Rattle.sw_file.specs.Network.{version_numbered, version_of, entries, w
 ghost use Rattle.sw_file.specs.Lists.{list_key, most_parts, next_part, with_list, HasParts};
 
 use crate::flows::add_flow;
-use crate::keys::DOCUMENT_KEYS;
 use crate::links::add_link;
 use crate::nodes::add_node;
 use crate::switches::add_switch;
 use std::alloc::Global;
 use std::marker::Model;
 use sw_config::{Network, NetworkBuilder};
+use sw_text::section_keys::DOCUMENT_KEYS;
 use sw_text::{FileFault, Key, KeyFault, Section, TableEntry, TextFault, Version, read_document};
 use sw_topo::limits::{MAX_FLOWS, MAX_LINKS, MAX_NODES, MAX_SWITCHES};
 use sw_topo::{Limit, TopoError, TopoFault};

@@ -10,11 +10,11 @@ ghost use Rattle.sw_text.specs.Gives.{Gives};
 ghost use Rattle.sw_file.specs.Names.{place_at};
 ghost use Rattle.sw_file.specs.FlowTables.{node_names, addressed, can_reply, replies_at, with_replies, flow_of, next_flow};
 
-use crate::keys::{FLOW_KEYS, reply_keys};
 use crate::nodes::outstanding_or_none;
 use std::alloc::Global;
 use std::marker::Model;
 use sw_config::{Flow, Network, Reply};
+use sw_text::section_keys::{FLOW_KEYS, reply_keys};
 use sw_text::{FileFault, Key, KeyFault, Section, TableEntry, TextFault, Version};
 use sw_topo::limits::{FIRST_LOGICAL, LAST_LOGICAL, MAX_ADDRESS, MAX_FLOWS, MAX_REPLY_PATH};
 use toml::Table;
@@ -33,7 +33,7 @@ fn node_at(flow: &TableEntry, key: Key, network: &Network) -> Result<u16, FileFa
 
 /// The address bytes of the flow, and how many of them are left at its end.
 #[tactic(auto, unfolding(crate::specs::FlowTables::addressed, crate::specs::FlowTables::address_at))]
-fn addressed(alloc: Global, index: usize, flow: &TableEntry) -> Result<(Vec<u8>, u8), FileFault>
+fn address_of(alloc: Global, index: usize, flow: &TableEntry) -> Result<(Vec<u8>, u8), FileFault>
     requires { flow.now.section ≡ Section.Flow index }
     ensures gives { Gives (λ a. (a.0.items, a.1)) result (addressed index (table_view flow.now.table.now)) }
     ensures few { IfOk result (λ a. vec_len a.0 ≤ 32) }
@@ -130,7 +130,7 @@ fn flow_of(
     }
     let from = node_at(flow, Key::From, network)?;
     let to = node_at(flow, Key::To, network)?;
-    let (address, left) = addressed(alloc, index, flow)?;
+    let (address, left) = address_of(alloc, index, flow)?;
     let replies = replies_at(alloc, version, index, flow, network, to);
     with_replies(alloc, name, from, to, address, left, replies)
 }

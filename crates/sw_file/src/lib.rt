@@ -4,7 +4,7 @@
 mod document;
 mod fault;
 mod flows;
-pub mod keys;
+mod keys;
 pub mod laws;
 mod links;
 mod migration;

@@ -6,10 +6,10 @@ ghost use Rattle.sw_config.specs.Entries.{part_names};
 ghost use Rattle.sw_text.specs.Gives.{Gives};
 ghost use Rattle.sw_file.specs.Links.{end_at, next_link};
 
-use crate::keys::link_keys;
 use std::alloc::Global;
 use std::marker::Model;
 use sw_config::NetworkBuilder;
+use sw_text::section_keys::link_keys;
 use sw_text::{FileFault, Key, KeyFault, Section, TableEntry, Version};
 use sw_topo::limits::{MAX_BUFFER, MAX_PORT, MIN_BUFFER};
 use sw_topo::{PlaceEnd, Port};
@@ -32,7 +32,7 @@ fn link_end(
     };
     let nodes = builder.node_count() as usize;
     if part < nodes {
-        link.absent(alloc, port_key)?;
+        link.refuse_known(alloc, port_key)?;
         return Ok(PlaceEnd::Node(part as u16));
     }
     prove!(part < nodes + builder.switch_count() as usize);

@@ -12,11 +12,12 @@ ghost use Rattle.sw_text.specs.Table.{number_or_none};
 ghost use Rattle.sw_file.specs.Names.{new_name};
 ghost use Rattle.sw_file.specs.Nodes.{target_or_none, next_node};
 
-use crate::keys::{most_slots, node_keys, target_keys};
+use crate::keys::most_slots;
 use std::alloc::Global;
 use std::marker::Model;
 use sw_config::NetworkBuilder;
 use sw_rmap::TargetConfig;
+use sw_text::section_keys::{node_keys, target_keys};
 use sw_text::{FileFault, Key, KeyFault, Section, TableEntry, Version};
 use sw_topo::limits::{FIRST_LOGICAL, LAST_LOGICAL, MAX_NODES, MEMORY_END};
 use toml::Table;

@@ -46,7 +46,7 @@ pub(crate) fn entry_of<'a>(alloc: Global, table: &'a Table) -> Result<RouteEntry
     })
 }
 
-fn alone<'a>(entry: &'a RouteEntry<'a>) -> Row<'a>
+fn single_row<'a>(entry: &'a RouteEntry<'a>) -> Row<'a>
     ensures { row_view result ≡ alone (entry_view entry.now) }
 {
     Row {
@@ -74,13 +74,13 @@ pub(crate) fn rows<'a>(
     let Some((first, rest)) = entries.split_first() else {
         return Ok(done);
     };
-    let mut row = alone(first);
+    let mut row = single_row(first);
     for entry in rest {
         if goes_on(&row, entry) {
             row.last = entry.address;
         } else {
             done.push(row)?;
-            row = alone(entry);
+            row = single_row(entry);
         }
     }
     done.push(row)?;

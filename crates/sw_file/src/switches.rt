@@ -5,13 +5,13 @@ ghost use Rattle.sw_route.specs.Looks.{IsRoute};
 ghost use Rattle.sw_text.specs.Gives.{Gives};
 ghost use Rattle.sw_file.specs.Switches.{arbitration_named, arbitration_at, ports_at, route_of, next_route, routes_at, next_switch};
 
-use crate::keys::{SWITCH_KEYS, route_keys};
 use crate::nodes::new_part_name;
 use std::alloc::Global;
 use std::marker::Model;
 use sw_arb::Arbitration;
 use sw_config::NetworkBuilder;
 use sw_route::{Route, RouteError, TableRoutes};
+use sw_text::section_keys::{SWITCH_KEYS, route_keys};
 use sw_text::{FileFault, Key, KeyFault, Section, TableEntry, TextFault, Version};
 use sw_topo::limits::{FIRST_LOGICAL, LAST_LOGICAL, MAX_PORT, MAX_SWITCHES, PORTS};
 use sw_topo::{Port, PortSet};

@@ -32,7 +32,7 @@ fn put_tables(alloc: Global, table: &mut Table, key: Key, tables: Array) -> Resu
     put(alloc, table, key, Value::Array(tables))
 }
 
-fn copied(table: &Table) -> Result<Table, AllocError>
+fn copy(table: &Table) -> Result<Table, AllocError>
     ensures { IfOk result (λ t. table_view t ≡ table_view table.now) }
 {
     table.clone()
@@ -41,7 +41,7 @@ fn copied(table: &Table) -> Result<Table, AllocError>
 fn row_table(alloc: Global, row: &Row) -> Result<Table, AllocError>
     ensures { IfOk result (λ t. table_view t ≡ row_table (row_view row.now)) }
 {
-    let mut table = copied(row.first.table)?;
+    let mut table = copy(row.first.table)?;
     if row.first.address != row.last {
         put(
             alloc,
@@ -67,7 +67,7 @@ fn merged_table<'a>(
         let route = row_table(alloc, row)?;
         routes.push(Value::Table(route))?;
     }
-    let mut merged = copied(table)?;
+    let mut merged = copy(table)?;
     match put_tables(alloc, &mut merged, Key::Route, routes) {
         Ok(()) => Ok(merged),
         Err(_) => {

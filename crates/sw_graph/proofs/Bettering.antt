@@ -5,7 +5,7 @@ use Rattle.std.specs.List.Sorted.{IsStrictlyIncreasing}
 use Rattle.std.proofs.lemmas.Bool.{cases_eq, cases_lt}
 use Rattle.std.proofs.lemmas.List.Kept.{AllPairs-from_increasing}
 use Rattle.sw_graph.specs.Levels.{Chain}
-use Rattle.sw_graph.specs.declared.best.KnownCycle.{KnownCycle}
+use Rattle.sw_graph.specs.declared.shortest_cycle.KnownCycle.{KnownCycle}
 use Rattle.sw_graph.specs.Bests.{IsBest, IsBetter}
 use Rattle.sw_graph.specs.Shortest.{IsFewest}
 use Rattle.sw_graph.proofs.Adding.{at_contains, contains_at}

@@ -18,7 +18,7 @@ use Rattle.sw_graph.specs.Walks.{holds}
 use Rattle.sw_graph.proofs.Listed.{lead_inside, row_member}
 use Rattle.sw_graph.proofs.Numbers.{Contains-from_holds}
 use Rattle.sw_graph.proofs.Pigeons.{chain_join}
-use Rattle.sw_graph.specs.declared.best.KnownCycle.{KnownCycle}
+use Rattle.sw_graph.specs.declared.shortest_cycle.KnownCycle.{KnownCycle}
 use Rattle.sw_graph.specs.declared.component.Component.{Component}
 use Rattle.sw_graph.specs.Bests.{IsBest}
 use Rattle.sw_graph.specs.Components.{AreComponents, AreComponentsBelow, AreTogether, IsComponent, LeadsTo}

@@ -1,7 +1,7 @@
 -- The least of some numbers with a shortest cycle.
 use Rattle.std.specs.Prelude.{◌≡◌, ℕ, suc, ◌<◌, ◌≤◌, ◌⊎◌, Contains, List}
 use Rattle.sw_graph.specs.Levels.{Chain}
-use Rattle.sw_graph.specs.declared.best.KnownCycle.{KnownCycle}
+use Rattle.sw_graph.specs.declared.shortest_cycle.KnownCycle.{KnownCycle}
 use Rattle.sw_graph.specs.Shortest.{IsFewest}
 
 -- the round is the shortest cycle through one of the numbers, and none through another is shorter, nor as short through a lesser one

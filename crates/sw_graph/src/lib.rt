@@ -6,12 +6,11 @@
 #![tactic(auto)]
 
 mod answer;
-mod back;
-mod best;
 mod component;
 pub mod component_laws;
+mod component_list;
 mod cycle;
-mod found;
+mod cycle_through;
 pub mod laws;
 mod least;
 mod marks;
@@ -21,6 +20,7 @@ mod round_workers;
 mod rounds;
 mod rows;
 mod search;
+mod shortest_cycle;
 pub mod side_by_side;
 mod steps;
 mod together;
@@ -31,7 +31,7 @@ mod workers;
 
 pub use answer::Order;
 pub use component::Component;
-pub use found::components;
+pub use component_list::components;
 pub use least::reached;
 pub use ordering::order;
 pub use predecessors::predecessors_of;

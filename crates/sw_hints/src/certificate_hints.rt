@@ -21,13 +21,13 @@ struct Refused<'a> {
 }
 
 impl<'a> Refused<'a> {
-    // Of a flow that there is not, nothing is told.
+    /// Of a flow that there is not, nothing is told.
     fn nothing(self) -> Told {
         Ok((self.teller.text("")?, self.teller.text("")?))
     }
 
-    // What the certificate lists for the flow of that number.
-    fn listed(self, number: u16) -> &'a [Place] {
+    /// What the certificate lists for the flow of that number.
+    fn listed_places(self, number: u16) -> &'a [Place] {
         if (number as usize) < self.certificate.flows() {
             self.certificate.places(number)
         } else {
@@ -35,14 +35,14 @@ impl<'a> Refused<'a> {
         }
     }
 
-    // A place of a flow, as a certificate lists it.
+    /// A place of a flow, as a certificate lists it.
     fn place(self, place: &Place, flow: &str) -> Text {
         let channel = place.channel.number();
         let deleted = place.deleted;
         format!(in self.teller.alloc; "place {channel} {deleted} of flow {flow}")
     }
 
-    // Counts that are not the network's, or else the first place that the network can't have.
+    /// Counts that are not the network's, or else the first place that the network can't have.
     fn counts(self) -> Told {
         let Teller { alloc, network } = self.teller;
         let (channels, flows) = (network.channels(), network.flows());
@@ -57,7 +57,7 @@ impl<'a> Refused<'a> {
         for number in 0..flows {
             let flow = network.flow(number);
             let bytes = flow.address().len();
-            for place in self.listed(number) {
+            for place in self.listed_places(number) {
                 if place.channel.number() >= channels || place.deleted as usize > bytes {
                     return Ok((
                         self.place(place, flow.name())?,
@@ -71,7 +71,7 @@ impl<'a> Refused<'a> {
         self.nothing()
     }
 
-    // The start of a flow, which is not listed.
+    /// The start of a flow, which is not listed.
     fn start(self, number: u16) -> Told {
         let Teller { alloc, network } = self.teller;
         if number >= network.flows() {
@@ -85,15 +85,15 @@ impl<'a> Refused<'a> {
         ))
     }
 
-    // A place, and the first one that follows it and is not listed.
-    fn missing(self, number: u16, place: &Place) -> Told {
+    /// A place, and the first one that follows it and is not listed.
+    fn missing_place(self, number: u16, place: &Place) -> Told {
         let Teller { alloc, network } = self.teller;
         if number >= network.flows() {
             return self.nothing();
         }
         let flow = network.flow(number);
         for next in followers_in(network, flow, *place) {
-            if !self.listed(number).contains(&next) {
+            if !self.listed_places(number).contains(&next) {
                 let next = self.place(&next, flow.name())?;
                 let found = self.place(place, flow.name())?;
                 return Ok((found, format!(in alloc; "{next}, which follows it")?));
@@ -102,18 +102,18 @@ impl<'a> Refused<'a> {
         self.nothing()
     }
 
-    // A place with a fault.
-    fn faulty(self, number: u16, place: &Place, fault: RouteFault) -> Told {
+    /// A place with a fault.
+    fn faulty_place(self, number: u16, place: &Place, fault: RouteFault) -> Told {
         let Teller { alloc, network } = self.teller;
         let listed = self.place(place, flow_name(network, number))?;
-        let found = self.teller.found(place, fault)?;
+        let found = self.teller.fault_text(place, fault)?;
         let expected = self
             .teller
             .text("places of the flow alone, and none with a fault")?;
         Ok((format!(in alloc; "{listed}, {found}")?, expected))
     }
 
-    // Does the flow go on from a place on the one channel, which is listed for it, to the other?
+    /// Does the flow go on from a place on the one channel, which is listed for it, to the other?
     fn goes_on(self, flow: &Flow, listed: &[Place], from: Chan, to: Chan) -> bool
         requires { length flow.now.address ≤ 32 }
     {
@@ -127,19 +127,20 @@ impl<'a> Refused<'a> {
         false
     }
 
-    // Why the one channel waits for the other: by the first flow that goes on to it, or by a target.
+    /// Why the one channel waits for the other: by the first flow that goes on to it, or by a
+    /// target.
     fn cause(self, from: Chan, to: Chan) -> Text {
         let Teller { alloc, network } = self.teller;
         for number in 0..network.flows() {
             let flow = network.flow(number);
-            if self.goes_on(flow, self.listed(number), from, to) {
+            if self.goes_on(flow, self.listed_places(number), from, to) {
                 return format!(in alloc; "to which flow {} goes on", flow.name());
             }
         }
         self.teller.text("on which its target answers")
     }
 
-    // The number of a channel, and which channel it is.
+    /// The number of a channel, and which channel it is.
     fn number(self, channel: Chan) -> Text {
         let number = number_of(self.certificate.numbers(), channel);
         let at = channel.number();
@@ -147,7 +148,7 @@ impl<'a> Refused<'a> {
         format!(in self.teller.alloc; "number {number} at channel {at} {ends}")
     }
 
-    // Two channels, the second of which waits for the first and has no greater number.
+    /// Two channels, the second of which waits for the first and has no greater number.
     fn numbers(self, channel: Chan, next: Chan) -> Told {
         let alloc = self.teller.alloc;
         let (first, second) = (self.number(channel)?, self.number(next)?);
@@ -161,13 +162,13 @@ impl<'a> Refused<'a> {
         ))
     }
 
-    fn told(self, refusal: Refusal) -> Told {
+    fn tell(self, refusal: Refusal) -> Told {
         match refusal {
             Refusal::WrongCount => self.counts(),
             Refusal::NoStart(flow) => self.start(flow),
-            Refusal::NotClosed(flow, place) => self.missing(flow, &place),
+            Refusal::NotClosed(flow, place) => self.missing_place(flow, &place),
             Refusal::NotRising(channel, next) => self.numbers(channel, next),
-            Refusal::Faulty(flow, place, fault) => self.faulty(flow, &place, fault),
+            Refusal::Faulty(flow, place, fault) => self.faulty_place(flow, &place, fault),
         }
     }
 }
@@ -190,7 +191,7 @@ pub fn refused_certificate_hint(
         teller,
         certificate,
     }
-    .told(refusal)?;
+    .tell(refusal)?;
     Ok(Hint {
         found,
         expected,

@@ -5,7 +5,7 @@ use sw_cert::{MAX_ADDRESS, MAX_NUMBER};
 use sw_faults::Hint;
 use sw_text::{cut, number};
 
-// What may stand behind this line.
+/// What may stand behind this line.
 fn expected_after(before: &[u8]) -> &'static str {
     if before.is_empty() {
         "swcert 1"
@@ -20,7 +20,7 @@ fn expected_after(before: &[u8]) -> &'static str {
     }
 }
 
-// The channel of a line of a place, and how many address bytes are deleted there.
+/// The channel of a line of a place, and how many address bytes are deleted there.
 fn place_in(line: &[u8]) -> Option<(u32, u32)> {
     let (channel, deleted) = cut(line.strip_prefix(b"place ")?, b' ')?;
     Some((
@@ -29,7 +29,7 @@ fn place_in(line: &[u8]) -> Option<(u32, u32)> {
     ))
 }
 
-// How many of the lines before this one begin a flow.
+/// How many of the lines before this one begin a flow.
 fn flows_before(text: &[u8], line: usize) -> usize {
     text.split(|byte| *byte == b'\n')
         .take(line.saturating_sub(1))
@@ -37,8 +37,8 @@ fn flows_before(text: &[u8], line: usize) -> usize {
         .count()
 }
 
-/// The hint of the line of a certificate's text, counted from 1, that is not as the grammar asks: what would be right, and whether it is a place that does
-/// not rise above the one before it.
+/// The hint of the line of a certificate's text, counted from 1, that is not as the grammar asks:
+/// what would be right, and whether it is a place that does not rise above the one before it.
 ///
 /// # Errors
 ///

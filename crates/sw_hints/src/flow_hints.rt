@@ -6,11 +6,12 @@ use sw_faults::Hint;
 use sw_flow::{Place, RouteFault};
 use sw_output::flow_name;
 
-// Where to look at channels that can wait for one another in a circle.
+/// Where to look at channels that can wait for one another in a circle.
 const CYCLIC_HELP: &str =
     "swcheck explain shows the shortest cycle, mend what to change, witness a schedule that locks up";
 
-/// The hint of a flow that is not well routed: its way to the place, what happens there, what to change.
+/// The hint of a flow that is not well routed: its way to the place, what happens there, what to
+/// change.
 ///
 /// # Errors
 ///
@@ -26,7 +27,7 @@ pub fn misrouted_hint(
     let what = format!(in alloc; "flow {} is misrouted", flow_name(network, flow))?;
     Ok(Hint {
         steps: teller.way(flow, place)?,
-        found: teller.found(place, fault)?,
+        found: teller.fault_text(place, fault)?,
         help: teller.change(flow, place, fault)?,
         ..Hint::new(alloc, what)
     })

@@ -1,5 +1,6 @@
-//! Hints on how a call ended, for a person: on a flow that goes wrong or is not there, a certificate, a load or a schedule with a fault, a step that is
-//! refused, a network that is locked up. They decide nothing.
+//! Hints on how a call ended, for a person: on a flow that goes wrong or is not there, a
+//! certificate, a load or a schedule with a fault, a step that is refused, a network that is locked
+//! up. They decide nothing.
 #![tactic(auto)]
 
 mod certificate_hints;

@@ -3,11 +3,11 @@ use crate::teller::{Teller, Text};
 use std::alloc::{AllocError, Global};
 use sw_config::Network;
 use sw_faults::{Hint, expected_text, help_text, hint_at_fault, meant_help, text_fault, text_of};
-use sw_text::{Key, KeyFault, Section, TextFault, Version, read_document};
+use sw_text::{Key, KeyFault, Section, TextFault, Version, is_known, read_document};
 use toml::Table;
 
 impl Teller<'_> {
-    // What to do about a packet that names no declared flow.
+    /// What to do about a packet that names no declared flow.
     fn flow_help(self, load: &Table, packet: Section) -> Text {
         match text_of(load, packet, Key::Flow) {
             Some(name) => self.meant_flow(name, self.network.declared_flows()),
@@ -15,17 +15,15 @@ impl Teller<'_> {
         }
     }
 
-    // What to do about a key that the document may not have.
+    /// What to do about a key that the document may not have.
     fn key_help(self, name: &str) -> Text {
-        match name {
-            "flow" | "cargo" | "end" | "count" => {
-                self.text("a key of a packet stands below a header [[packet]]")
-            }
-            _ => meant_help(self.alloc, name, &["packet"]),
+        if is_known(Section::Packet(0).keys(Version::Two), name) {
+            return self.text("a key of a packet stands below a header [[packet]]");
         }
+        meant_help(self.alloc, name, &["packet"])
     }
 
-    // Which condition failed of a packet that the flow does not declare.
+    /// Which condition failed of a packet that the flow does not declare.
     fn failed_words(self, flow: u16) -> &'static str {
         if self.is_limited(flow) {
             return "the flow is limited in its unanswered commands: each of its packets has to be such a command";
@@ -38,7 +36,7 @@ impl Teller<'_> {
         }
     }
 
-    // The flow of the packet that is not declared, if the fault is that.
+    /// The flow of the packet that is not declared, if the fault is that.
     fn undeclared_flow(self, load: &Table, fault: &TextFault) -> Option<u16> {
         let TextFault::NotInFlow(packet) = fault else {
             return None;
@@ -47,7 +45,7 @@ impl Teller<'_> {
         self.network.declared_flow_named(name)
     }
 
-    // Says what would be right, what to do, and why a packet is not declared.
+    /// Says what would be right, what to do, and why a packet is not declared.
     fn fill(self, load: &Table, fault: &TextFault, hint: &mut Hint) -> Result<(), AllocError> {
         if let Some(flow) = self.undeclared_flow(load, fault) {
             hint.notes.push(self.text(self.failed_words(flow))?)?;

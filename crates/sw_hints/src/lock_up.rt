@@ -8,11 +8,11 @@ use sw_output::node_name;
 use sw_schedule::{CellId, Input, NodePart, Part, PortPart, cells};
 use sw_topo::{Chan, Port};
 
-// The most lines that are told.
+/// The most lines that are told.
 const MOST_LINES: usize = 40;
 
 impl Teller<'_> {
-    // The channel that starts at the port of the switch, if it has a link.
+    /// The channel that starts at the port of the switch, if it has a link.
     fn channel_from(self, switch: u16, port: Port) -> Option<Chan> {
         if switch >= self.network.switches() {
             return None;
@@ -20,7 +20,7 @@ impl Teller<'_> {
         self.network.topology().out_of(switch, port)
     }
 
-    // The channel that ends there.
+    /// The channel that ends there.
     fn input(self, switch: u16, port: Port) -> Text {
         match self.channel_from(switch, port) {
             Some(channel) => self.channel(Some(channel.partner())),
@@ -28,7 +28,7 @@ impl Teller<'_> {
         }
     }
 
-    // The channels that a leading byte names at the switch, with "or" between each two.
+    /// The channels that a leading byte names at the switch, with "or" between each two.
     fn named_outputs(self, switch: u16, byte: u8) -> Text {
         let mut text = String::new(self.alloc);
         if switch >= self.network.switches() {
@@ -44,8 +44,9 @@ impl Teller<'_> {
         Ok(text)
     }
 
-    // The line of a node that is a target which takes nothing, if it is: it owes as many replies as it has slots.
-    fn owing(self, node: u16, part: &NodePart) -> Text {
+    /// The line of a node that is a target which takes nothing, if it is: it owes as many replies
+    /// as it has slots.
+    fn target_line(self, node: u16, part: &NodePart) -> Text {
         if node >= self.network.nodes() {
             return self.text("");
         }
@@ -62,8 +63,8 @@ impl Teller<'_> {
         }
     }
 
-    // The line of a node that has characters to send and no credit, if so.
-    fn sending(self, node: u16, part: &NodePart) -> Text {
+    /// The line of a node that has characters to send and no credit, if so.
+    fn sender_line(self, node: u16, part: &NodePart) -> Text {
         if part.to_send.is_empty() || part.credit > 0 || node >= self.network.nodes() {
             return self.text("");
         }
@@ -72,8 +73,9 @@ impl Teller<'_> {
         format!(in self.alloc; "  {name} sends a packet on {output}, which has no credit\n")
     }
 
-    // The line of an input of the switch, one of the ports with these parts, which holds an output or waits for some, if it does.
-    fn holding(self, switch: u16, parts: &[PortPart], part: &PortPart) -> Text {
+    /// The line of an input of the switch, one of the ports with these parts, which holds an output
+    /// or waits for some, if it does.
+    fn input_line(self, switch: u16, parts: &[PortPart], part: &PortPart) -> Text {
         let input = self.input(switch, part.port)?;
         if let Input::Held(held) = part.input {
             let output = self.channel(self.channel_from(switch, held))?;
@@ -95,16 +97,18 @@ impl Teller<'_> {
         }
     }
 
-    // The lines of what holds the network up, and then of the nodes that can't send on.
+    /// The lines of what holds the network up, and then of the nodes that can't send on.
     fn lines(self, parts: &[Part]) -> Result<Vec<String>, AllocError> {
         let cells = cells(self.alloc, self.network)?;
         let mut lines = Vec::new(self.alloc);
         for (cell, part) in cells.iter().zip(parts) {
             match (*cell, part) {
-                (CellId::Node(node), Part::Node(part)) => lines.push(self.owing(node, part)?)?,
+                (CellId::Node(node), Part::Node(part)) => lines.push(self.target_line(
+                    node, part,
+                )?)?,
                 (CellId::Switch(switch), Part::Switch(parts)) => {
                     for part in parts {
-                        lines.push(self.holding(switch, parts, part)?)?;
+                        lines.push(self.input_line(switch, parts, part)?)?;
                     }
                 }
                 _ => {}
@@ -112,7 +116,7 @@ impl Teller<'_> {
         }
         for (cell, part) in cells.iter().zip(parts) {
             if let (CellId::Node(node), Part::Node(part)) = (*cell, part) {
-                lines.push(self.sending(node, part)?)?;
+                lines.push(self.sender_line(node, part)?)?;
             }
         }
         lines.retain(|line| !line.is_empty());
@@ -125,8 +129,8 @@ impl Teller<'_> {
     }
 }
 
-/// The hint of a network that is locked up, by its parts in the order of `sw_schedule::cells`: which nodes and packets hold which
-/// channels, and for which they wait.
+/// The hint of a network that is locked up, by its parts in the order of `sw_schedule::cells`:
+/// which nodes and packets hold which channels, and for which they wait.
 ///
 /// # Errors
 ///

@@ -7,14 +7,14 @@ use sw_flow::{Place, RouteFault, way_to};
 use sw_output::{linked_ports, node_name, switch_name};
 use sw_topo::PlaceEnd;
 
-// The address bytes that a packet of the flow still has at the place.
+/// The address bytes that a packet of the flow still has at the place.
 fn left_at<'a>(flow: &'a Flow, place: &Place) -> &'a [u8] {
     let bytes = flow.address();
     &bytes[(place.deleted as usize).min(bytes.len())..]
 }
 
 impl Teller<'_> {
-    // A place on the way, with the address bytes that a packet still has there.
+    /// A place on the way, with the address bytes that a packet still has there.
     fn way_line(self, flow: &Flow, number: usize, place: &Place) -> Text {
         let channel = self.channel(Some(place.channel))?;
         let left = self.numbers(left_at(flow, place))?;
@@ -24,8 +24,8 @@ impl Teller<'_> {
         format!(in self.alloc; "  {number}. {channel}, address bytes left:{left}\n")
     }
 
-    /// A line for each place that packets of the flow of that number go over on their way to this one, which is the last; none where it is no place of the
-    /// flow.
+    /// A line for each place that packets of the flow of that number go over on their way to this
+    /// one, which is the last; none where it is no place of the flow.
     pub(crate) fn way(self, number: u16, place: &Place) -> Result<Vec<String>, AllocError> {
         let mut lines = Vec::new(self.alloc);
         if number >= self.network.flows() {
@@ -40,7 +40,7 @@ impl Teller<'_> {
     }
 
     /// What happens at the place, and at which node or switch.
-    pub(crate) fn found(self, place: &Place, fault: RouteFault) -> Text {
+    pub(crate) fn fault_text(self, place: &Place, fault: RouteFault) -> Text {
         let name = match self.end(place.channel) {
             Some(PlaceEnd::Node(node)) => node_name(self.network, node),
             Some(PlaceEnd::Switch(switch, _)) => switch_name(self.network, switch),
@@ -49,7 +49,8 @@ impl Teller<'_> {
         format!(in self.alloc; "{name}: {}", fault_words(fault))
     }
 
-    // What to change where a switch knows no way on for this byte, or where no byte is left, and where a packet can go on to from there.
+    /// What to change where a switch knows no way on for this byte, or where no byte is left, and
+    /// where a packet can go on to from there.
     fn switch_change(self, switch: u16, is_declared: bool, byte: Option<u8>) -> Text {
         let alloc = self.alloc;
         if switch >= self.network.switches() {
@@ -73,7 +74,7 @@ impl Teller<'_> {
         format!(in alloc; "{change}; {name} has links at ports{ports}")
     }
 
-    // What to change where another node is reached.
+    /// What to change where another node is reached.
     fn node_change(self, flow: &Flow, is_declared: bool, node: u16) -> Text {
         let reached = node_name(self.network, node);
         let end = node_name(self.network, flow.to());
@@ -85,7 +86,8 @@ impl Teller<'_> {
         format!(in self.alloc; "change the reply's 'path' so that it leads to {end}")
     }
 
-    // What to change where the node is reached with so many bytes left, and they are not as many as they have to be.
+    /// What to change where the node is reached with so many bytes left, and they are not as many
+    /// as they have to be.
     fn left_change(self, is_declared: bool, left: usize) -> Text {
         if is_declared {
             return format!(in self.alloc; "let 'left' be {left}, or change 'address'");

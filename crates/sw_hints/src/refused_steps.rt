@@ -5,9 +5,9 @@ use std::alloc::{AllocError, Global};
 use sw_config::Network;
 use sw_faults::{Hint, found_at};
 use sw_output::{flow_name, node_name};
-use sw_schedule::{Schedule, ScheduleEntry, ScheduleFault, Step, StepRefusal, read_steps};
+use sw_schedule::{Move, Schedule, ScheduleEntry, ScheduleFault, Step, StepRefusal, read_steps};
 
-// How many steps a line lists.
+/// How many steps a line lists.
 fn steps_in(alloc: Global, network: &Network, line: &[u8]) -> Result<u32, AllocError> {
     match read_steps(alloc, network, line) {
         Ok(schedule) => Ok(schedule.total()),
@@ -16,7 +16,7 @@ fn steps_in(alloc: Global, network: &Network, line: &[u8]) -> Result<u32, AllocE
     }
 }
 
-// The number of the line in which the step of that number stands, both counted from 1.
+/// The number of the line in which the step of that number stands, both counted from 1.
 fn line_with(
     alloc: Global,
     network: &Network,
@@ -34,7 +34,7 @@ fn line_with(
     Ok(None)
 }
 
-// The entry with the step of that number, counted from 1, if there are so many.
+/// The entry with the step of that number, counted from 1, if there are so many.
 fn entry_with(entries: &[ScheduleEntry], number: u32) -> Option<&ScheduleEntry> {
     let mut left = number;
     for entry in entries {
@@ -47,36 +47,36 @@ fn entry_with(entries: &[ScheduleEntry], number: u32) -> Option<&ScheduleEntry> 
 }
 
 impl Teller<'_> {
-    // What a step needs to be possible.
+    /// What a step needs to be possible.
     fn to_be_possible(self, step: &Step) -> Text {
         let (alloc, network) = (self.alloc, self.network);
         match step {
-            Step::Fct(channel) => format!(in alloc;
+            Step::Move(Move::Fct(channel)) => format!(in alloc;
                 "room for eight characters more at the end of channel {}, and at most 48 that were asked for and did not arrive",
                 channel.number()
             ),
-            Step::FctIn(channel) => format!(in alloc;
+            Step::Move(Move::FctIn(channel)) => format!(in alloc;
                 "an FCT for channel {} that was sent and did not arrive: fct sends one",
                 channel.number()
             ),
-            Step::Arrive(channel) => format!(in alloc;
+            Step::Move(Move::Arrive(channel)) => format!(in alloc;
                 "a character on the wire of channel {}: emit or forward sends one",
                 channel.number()
             ),
-            Step::Grant(output, input) => format!(in alloc;
+            Step::Move(Move::Grant(output, input)) => format!(in alloc;
                 "an input from channel {} that holds nothing, with a header in front that names channel {}, which no input holds",
                 input.number(),
                 output.number()
             ),
-            Step::Drop(channel) => format!(in alloc;
+            Step::Move(Move::Drop(channel)) => format!(in alloc;
                 "an input from channel {} that holds nothing, with a byte in front that names no output, or with a packet's end",
                 channel.number()
             ),
-            Step::Forward(channel) => format!(in alloc;
+            Step::Move(Move::Forward(channel)) => format!(in alloc;
                 "an input from channel {} that holds an output, credit for that, and a character in front",
                 channel.number()
             ),
-            Step::Spill(channel) => format!(in alloc;
+            Step::Move(Move::Spill(channel)) => format!(in alloc;
                 "an input from channel {} that discards a packet, and a character in front",
                 channel.number()
             ),
@@ -84,22 +84,22 @@ impl Teller<'_> {
                 "a node that sends nothing, with no reply that waits, where flow {} starts",
                 flow_name(network, *flow)
             ),
-            Step::Emit(node) => format!(in alloc;
+            Step::Move(Move::Emit(node)) => format!(in alloc;
                 "a character that {} has still to send, and credit for it: fctin brings some",
                 node_name(network, *node)
             ),
-            Step::Accept(node) => format!(in alloc;
+            Step::Move(Move::Accept(node)) => format!(in alloc;
                 "a character that came in at {}, which owes fewer replies than it has slots",
                 node_name(network, *node)
             ),
-            Step::Reply(node) => format!(in alloc;
+            Step::Move(Move::Reply(node)) => format!(in alloc;
                 "a reply that waits at {}, which sends nothing",
                 node_name(network, *node)
             ),
         }
     }
 
-    // What a further command of the flow needs, if the node where it ends has a limit.
+    /// What a further command of the flow needs, if the node where it ends has a limit.
     fn within_limit(self, flow: u16) -> Text {
         let Some(flow) = self.flow(flow) else {
             return self.text("");
@@ -113,7 +113,7 @@ impl Teller<'_> {
         }
     }
 
-    // What a packet has to be that its flow declares.
+    /// What a packet has to be that its flow declares.
     fn to_be_declared(self, flow: u16) -> Text {
         self.text(if self.is_limited(flow) {
             "an RMAP command that the target answers, and whose reply goes where the flow's 'reply' says, since the flow is limited: swcheck rmap tells its cargo"
@@ -122,7 +122,7 @@ impl Teller<'_> {
         })
     }
 
-    // What the step needs that was refused so.
+    /// What the step needs that was refused so.
     fn needs(self, step: &Step, refusal: StepRefusal) -> Text {
         match (refusal, step) {
             (StepRefusal::NotEnabled, step) => self.to_be_possible(step),
@@ -133,7 +133,8 @@ impl Teller<'_> {
     }
 }
 
-/// The hint of the step of that number, counted from 1, of a schedule with this text: the line in which it stands, and what it needs.
+/// The hint of the step of that number, counted from 1, of a schedule with this text: the line in
+/// which it stands, and what it needs.
 ///
 /// # Errors
 ///

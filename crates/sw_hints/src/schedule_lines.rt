@@ -6,7 +6,7 @@ use std::alloc::{AllocError, Global};
 use sw_config::Network;
 use sw_faults::{Hint, meant_help};
 
-// What is wrong with a word.
+/// What is wrong with a word.
 fn wrong_words(wanted: Wanted) -> &'static str {
     match wanted {
         Wanted::Verb => "no step begins so",
@@ -20,7 +20,7 @@ fn wrong_words(wanted: Wanted) -> &'static str {
 }
 
 impl Teller<'_> {
-    // What would be right; no more steps, where no other word is wanted.
+    /// What would be right; no more steps, where no other word is wanted.
     fn right_words(self, wanted: Option<Wanted>) -> Text {
         let Some(wanted) = wanted else {
             return self.text("at most 1000000 steps in all");
@@ -44,7 +44,7 @@ impl Teller<'_> {
         }
     }
 
-    // What to do about the word that a rest of a line begins with.
+    /// What to do about the word that a rest of a line begins with.
     fn word_help(self, wanted: Option<Wanted>, rest: &[u8]) -> Text {
         match (wanted, first_name(rest)) {
             (Some(Wanted::Verb), Some(name)) => meant_help(self.alloc, name, VERBS),
@@ -58,7 +58,8 @@ impl Teller<'_> {
     }
 }
 
-/// The hint of the line of a schedule's text, counted from 1, that is no step of this network, or with which there are too many steps.
+/// The hint of the line of a schedule's text, counted from 1, that is no step of this network, or
+/// with which there are too many steps.
 ///
 /// # Errors
 ///

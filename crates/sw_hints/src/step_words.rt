@@ -25,7 +25,8 @@ pub(crate) enum Wanted {
     Nothing,
 }
 
-/// What is wrong in a line: the rest of it from the first wrong word on, none where a word lacks, and what has to stand there.
+/// What is wrong in a line: the rest of it from the first wrong word on, none where a word lacks,
+/// and what has to stand there.
 #[derive(Clone, Copy)]
 pub(crate) struct Wrong<'a> {
     pub(crate) rest: Option<&'a [u8]>,
@@ -45,7 +46,7 @@ pub(crate) fn first_name(line: &[u8]) -> Option<&str> {
     str::from_utf8(first_word(line).0).ok()
 }
 
-// What the words behind the first of a step have to be.
+/// What the words behind the first of a step have to be.
 fn wanted_behind(verb: &str) -> Option<&'static [Wanted]> {
     match verb {
         "fct" | "fctin" | "arrive" | "drop" | "forward" | "spill" => Some(&[Wanted::Channel]),
@@ -56,8 +57,8 @@ fn wanted_behind(verb: &str) -> Option<&'static [Wanted]> {
     }
 }
 
-impl<'a> Teller<'a> {
-    // Is a word, behind the first one of a step, as it has to be?
+impl Teller<'_> {
+    /// Is a word, behind the first one of a step, as it has to be?
     fn is_right(self, wanted: Wanted, word: &[u8]) -> Result<bool, AllocError> {
         let network = self.network;
         Ok(match (wanted, first_name(word)) {

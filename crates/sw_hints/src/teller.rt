@@ -44,7 +44,8 @@ impl<'a> Teller<'a> {
         flow < self.network.flows() && self.network.is_limited(flow)
     }
 
-    /// The node or the port of a switch that the channel leads to, if the network has such a channel.
+    /// The node or the port of a switch that the channel leads to, if the network has such a
+    /// channel.
     pub(crate) fn end(self, channel: Chan) -> Option<PlaceEnd> {
         let topology = self.network.topology();
         if channel.number() >= topology.channels() {

@@ -11,7 +11,8 @@ pub(crate) fn nth_line(text: &[u8], number: usize) -> &[u8] {
     text.split(|byte| *byte == b'\n').nth(before).unwrap_or(&[])
 }
 
-/// The hint of the line of this number that is wrong from this rest of it on: where that begins, what is wrong, what stands there, and what would be right.
+/// The hint of the line of this number that is wrong from this rest of it on: where that begins,
+/// what is wrong, what stands there, and what would be right.
 pub(crate) fn line_hint(
     alloc: Global,
     number: usize,

@@ -3,7 +3,7 @@ use Rattle.std.proofs.Common.{◌≡◌, ◌++◌, ◌+◌, ◌<◌, ◌≤◌, 
 use Rattle.std.proofs.Math.ListN.{drop_of_length-le}
 use Rattle.std.proofs.lemmas.List.{map-append, take_all}
 use Rattle.std.specs.Prelude.{slice_get}
-use Rattle.std.proofs.lemmas.Bool.{cases_eq}
+use Rattle.std.proofs.lemmas.Bool.{cases_eq, false≢true}
 use Rattle.std.proofs.lemmas.Option.{same_Some}
 use Rattle.sw_char.specs.declared.nchar.End.{End}
 use Rattle.sw_config.specs.Valid.{IsValid}
@@ -23,6 +23,11 @@ use Rattle.sw_net.specs.Net.{NetAnswers, NetView}
 use Rattle.sw_net.specs.Unanswered.{Counts, CountsUnanswered, HasCounted}
 use Rattle.sw_net.proofs.Steps.{get_set_other, get_set_same}
 use Rattle.sw_config.specs.Entries.{Declaration}
+
+-- where no packet begins, no node begins one
+pub no_beginner_of : (net : Network) (step : Step) → is_begin step ≡ false → None ≡ beginner_of net step
+no_beginner_of net (Begin f cargo end) none = absurd (false≢true (sym none))
+no_beginner_of net step none = refl
 
 -- a step that no node begins is no beginning
 pub no_beginner : (net : Network) (step : Step) → beginner_of net step ≡ None → is_begin step ≡ false

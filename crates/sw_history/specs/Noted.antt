@@ -5,12 +5,13 @@ use Rattle.sw_config.specs.Entries.{Declaration}
 use Rattle.sw_history.specs.History.{HistoryView}
 use Rattle.sw_history.specs.Next.{begin_of}
 use Rattle.sw_history.specs.declared.record.Noted.{Noted}
-use Rattle.sw_history.specs.declared.record.Noted.TheVariants.{Accept, Arrive, Begin, Drop, Emit, Fct, FctIn, Forward, Grant, Reply, Spill}
+use Rattle.sw_history.specs.declared.record.Noted.TheVariants.{Begin, Move}
 use Rattle.sw_load.specs.History.{packets_at, packets_of}
 use Rattle.sw_load.specs.Senders.{SendersView}
 use Rattle.sw_machine.specs.Begun.{Begun}
 use Rattle.sw_machine.specs.Steps as machine
 use Rattle.sw_machine.specs.Model.{network_of}
+use Rattle.sw_machine.specs.StepValues.{machine_move}
 use Rattle.sw_net.specs.Unanswered.{Counts, allows}
 
 -- what the nodes send in a history
@@ -33,17 +34,8 @@ begin_or None = machine.Begin 0 [] Eop
 
 -- the step that is kept so
 abbrev pub noted_step : SendersView → Noted → machine.Step
-noted_step s (Fct c) = machine.Fct c
-noted_step s (FctIn c) = machine.FctIn c
-noted_step s (Arrive c) = machine.Arrive c
-noted_step s (Grant d c) = machine.Grant d c
-noted_step s (Drop c) = machine.Drop c
-noted_step s (Forward c) = machine.Forward c
-noted_step s (Spill c) = machine.Spill c
+noted_step s (Move step) = machine_move step
 noted_step s (Begin n before) = begin_or (packet_after s n before)
-noted_step s (Emit n) = machine.Emit n
-noted_step s (Accept n) = machine.Accept n
-noted_step s (Reply n) = machine.Reply n
 
 -- a beginning is that of a packet of the load
 abbrev pub IsNoted : SendersView → Noted → Type 0

@@ -92,7 +92,7 @@ impl<'n, R: Routing, A: Arbiter> History<'n, R, A> {
         requires { end < 2 * length self.now.declared.links }
         ensures { IsTrue result ↔ IsIdle (network_of self.now.declared) (packets_of self.now.load) self.now.steps end }
     {
-        if self.net.enabled(end) {
+        if self.net.can_step(end) {
             return false;
         }
         self.may_begin_at(end).is_none()

@@ -3,7 +3,7 @@
 use crate::fault::StepFault;
 use crate::making::make;
 use crate::packets::{count_begun, is_same, nothing_begun, within_limit};
-use crate::record::{Noted, plain};
+use crate::record::Noted;
 use std::alloc::{AllocError, Global};
 use std::marker::Model;
 use sw_arb::Arbiter;
@@ -125,7 +125,7 @@ impl<'n, R: Routing, A: Arbiter> History<'n, R, A> {
                 Some(node) => Ok(Some(node)),
                 None => Err(StepFault::NotEnabled),
             },
-            _ => Ok(None),
+            Step::Move(_) => Ok(None),
         }
     }
 
@@ -142,7 +142,10 @@ impl<'n, R: Routing, A: Arbiter> History<'n, R, A> {
         let _total = self.senders.load().total();
         match beginner {
             Some(node) => Noted::Begin(node, self.begun[node as usize] as u16),
-            None => plain(step),
+            None => match step {
+                Step::Move(step) => Noted::Move(*step),
+                Step::Begin { .. } => unreachable!(),
+            },
         }
     }
 
@@ -177,7 +180,7 @@ impl<'n, R: Routing, A: Arbiter> History<'n, R, A> {
         let _network = self.net.network();
         let beginner = self.beginner(&step)?;
         let note = self.note(&step, beginner);
-        let made = make(&mut self.net, &mut self.unanswered, alloc, &step);
+        let made = make(alloc, &mut self.net, &mut self.unanswered, &step);
         drop(step);
         made?;
         count_begun(self.begun.as_mut_slice(), beginner);

@@ -15,9 +15,9 @@ use sw_route::Routing;
 /// Makes the step, if the network can, and counts what it changes of what is unanswered.
 #[inline(always)]
 pub(crate) fn make<R: Routing, A: Arbiter>(
+    alloc: Global,
     net: &mut Net<'_, R, A>,
     unanswered: &mut Unanswered,
-    alloc: Global,
     step: &Step,
 ) -> Result<(), StepFault>
     ensures network { net.new.declared ≡ net.old.declared }

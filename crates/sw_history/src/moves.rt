@@ -16,7 +16,7 @@ pub(crate) fn count_enabled<R: Routing, A: Arbiter>(net: &Net<'_, R, A>) -> usiz
 {
     let mut count: usize = 0;
     for number in 0..net.network().channels() {
-        if net.enabled(LinkEnd::new(number)) {
+        if net.can_step(LinkEnd::new(number)) {
             count += 1;
         }
     }
@@ -31,7 +31,7 @@ fn nth_enabled<R: Routing, A: Arbiter>(net: &Net<'_, R, A>, index: usize) -> Opt
     let mut before: usize = 0;
     for number in 0..net.network().channels() {
         let end = LinkEnd::new(number);
-        if net.enabled(end) {
+        if net.can_step(end) {
             if before == index {
                 return Some(end);
             }

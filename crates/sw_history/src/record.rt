@@ -10,48 +10,17 @@ ghost use Rattle.sw_machine.specs.StepValues.{machine_step};
 use std::alloc::{AllocError, Global};
 use std::marker::Model;
 use sw_load::{LoadPacket, Senders};
-use sw_machine::Step;
-use sw_topo::Chan;
+use sw_machine::{Move, Step};
 
 /// A step in few bytes. A beginning is the node that sends, and how many of its packets come before
 /// the one that it begins.
 #[derive(Clone, Copy)]
 pub(crate) enum Noted {
-    Fct(Chan),
-    FctIn(Chan),
-    Arrive(Chan),
-    Grant(Chan, Chan),
-    Drop(Chan),
-    Forward(Chan),
-    Spill(Chan),
+    Move(Move),
     Begin(u16, u16),
-    Emit(u16),
-    Accept(u16),
-    Reply(u16),
 }
 
 const _: () = prove!(size_of::<Noted>() <= 8);
-
-/// A step that begins no packet, in few bytes.
-pub(crate) fn plain(step: &Step) -> Noted
-    requires { is_begin (machine_step step.now) ≡ false }
-    ensures step { (s : SendersView) → noted_step s result ≡ machine_step step.now }
-    ensures sound { (s : SendersView) → IsNoted s result }
-{
-    match step {
-        Step::Begin { .. } => unreachable!(),
-        Step::Fct(channel) => Noted::Fct(*channel),
-        Step::FctIn(channel) => Noted::FctIn(*channel),
-        Step::Arrive(channel) => Noted::Arrive(*channel),
-        Step::Grant(output, channel) => Noted::Grant(*output, *channel),
-        Step::Drop(channel) => Noted::Drop(*channel),
-        Step::Forward(channel) => Noted::Forward(*channel),
-        Step::Spill(channel) => Noted::Spill(*channel),
-        Step::Emit(node) => Noted::Emit(*node),
-        Step::Accept(node) => Noted::Accept(*node),
-        Step::Reply(node) => Noted::Reply(*node),
-    }
-}
 
 /// The step that begins the packet.
 pub(crate) fn beginning(alloc: Global, packet: &LoadPacket) -> Result<Step, AllocError>
@@ -65,7 +34,12 @@ pub(crate) fn beginning(alloc: Global, packet: &LoadPacket) -> Result<Step, Allo
 }
 
 /// The step that begins the packet of the node that has so many of its packets before it.
-fn begun(alloc: Global, senders: &Senders<'_>, node: u16, before: u16) -> Result<Step, AllocError>
+fn beginning_step(
+    alloc: Global,
+    senders: &Senders<'_>,
+    node: u16,
+    before: u16,
+) -> Result<Step, AllocError>
     requires { IsNoted senders.now (Noted.Begin node before) }
     ensures { IfOk result (λ step. machine_step step ≡ noted_step senders.now (Noted.Begin node before)) }
 {
@@ -81,17 +55,8 @@ fn step_of(alloc: Global, senders: &Senders<'_>, note: Noted) -> Result<Step, Al
     ensures { IfOk result (λ step. machine_step step ≡ noted_step senders.now note) }
 {
     match note {
-        Noted::Begin(node, before) => begun(alloc, senders, node, before),
-        Noted::Fct(channel) => Ok(Step::Fct(channel)),
-        Noted::FctIn(channel) => Ok(Step::FctIn(channel)),
-        Noted::Arrive(channel) => Ok(Step::Arrive(channel)),
-        Noted::Grant(output, channel) => Ok(Step::Grant(output, channel)),
-        Noted::Drop(channel) => Ok(Step::Drop(channel)),
-        Noted::Forward(channel) => Ok(Step::Forward(channel)),
-        Noted::Spill(channel) => Ok(Step::Spill(channel)),
-        Noted::Emit(node) => Ok(Step::Emit(node)),
-        Noted::Accept(node) => Ok(Step::Accept(node)),
-        Noted::Reply(node) => Ok(Step::Reply(node)),
+        Noted::Begin(node, before) => beginning_step(alloc, senders, node, before),
+        Noted::Move(step) => Ok(Step::Move(step)),
     }
 }
 

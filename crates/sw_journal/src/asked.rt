@@ -24,7 +24,7 @@ impl<'n> Journal<'n> {
         self.marks[end.number() as usize]
     }
 
-    // Whether no step of the link end may be the next.
+    /// Whether no step of the link end may be the next.
     pub(crate) fn is_idle(&self, end: LinkEnd) -> bool
         ensures { IsTrue result ↔ IsIdle (network_of self.now.declared) (packets_of self.now.load) self.now.history end }
     {
@@ -34,7 +34,7 @@ impl<'n> Journal<'n> {
         self.history.is_idle(end)
     }
 
-    // The link end is marked as idle now.
+    /// The link end is marked as idle now.
     pub(crate) fn set_mark(&mut self, end: LinkEnd)
         requires { IsIdle (network_of self.old.declared) (packets_of self.old.load) self.old.history end }
         ensures { self.new ≡ with_marks self.old (slice_set self.old.marks end (Some (length self.old.history))) }
@@ -99,7 +99,7 @@ impl<'n> Journal<'n> {
         self.history.is_whole() && self.undelivered() == 0
     }
 
-    // Whether no step may be the next.
+    /// Whether no step may be the next.
     fn is_still(&self) -> bool
         ensures { IsTrue result ↔ IsStill self.now }
     {

@@ -6,8 +6,8 @@ ghost use Rattle.sw_machine.specs.StepValues.{machine_step};
 use crate::cell::Cell;
 use crate::cell_table::{CellSeat, CellTable};
 use crate::fault::JournalFault;
-use crate::opening::{Opening, opened};
-use crate::renewal::{changing, renew_after};
+use crate::opening::{Opening, opening_of};
+use crate::renewal::{changed_ends, renew_after};
 use crate::seats::{meet, part};
 use std::alloc::{AllocError, Global};
 use std::marker::Model;
@@ -82,7 +82,7 @@ impl<'n> Journal<'n> {
         ensures cells { IfOk result (λ r. r.1.items ≡ new_cells network.now r.0.name) }
     {
         let history = History::new(alloc, declared_net(alloc, network)?, load)?;
-        match opened(alloc, history.net()) {
+        match opening_of(alloc, history.net()) {
             Ok(
                 Opening {
                     marks,
@@ -133,35 +133,6 @@ impl<'n> Journal<'n> {
         ensures commits { Commits self.old cell.old (machine_step step) result self.new cell.new }
         ensures numbers { IsNowCell self.old cell.old }
     {
-        match step {
-            Step::Fct(channel) => self.commit_kind(alloc, cell, Step::Fct(channel)),
-            Step::FctIn(channel) => self.commit_kind(alloc, cell, Step::FctIn(channel)),
-            Step::Arrive(channel) => self.commit_kind(alloc, cell, Step::Arrive(channel)),
-            Step::Drop(channel) => self.commit_kind(alloc, cell, Step::Drop(channel)),
-            Step::Forward(channel) => self.commit_kind(alloc, cell, Step::Forward(channel)),
-            Step::Spill(channel) => self.commit_kind(alloc, cell, Step::Spill(channel)),
-            Step::Emit(node) => self.commit_kind(alloc, cell, Step::Emit(node)),
-            Step::Accept(node) => self.commit_kind(alloc, cell, Step::Accept(node)),
-            Step::Reply(node) => self.commit_kind(alloc, cell, Step::Reply(node)),
-            Step::Grant(output, channel) => {
-                self.commit_kind(alloc, cell, Step::Grant(output, channel))
-            }
-            Step::Begin { .. } => self.commit_kind(alloc, cell, step),
-        }
-    }
-
-    // The same: each kind of step has code of its own, in which little is left to be asked.
-    #[inline(always)]
-    fn commit_kind(
-        &mut self,
-        alloc: Global,
-        cell: &mut Cell,
-        step: Step,
-    ) -> Result<(), JournalFault>
-        requires { cell.old.name ≡ self.old.name }
-        ensures commits { Commits self.old cell.old (machine_step step) result self.new cell.new }
-        ensures numbers { IsNowCell self.old cell.old }
-    {
         let Journal {
             history,
             limit,
@@ -171,8 +142,8 @@ impl<'n> Journal<'n> {
             places,
         } = self;
         meet(table, seat, &mut cell.seat);
-        let these = changing(history, &step);
-        if let Err(fault) = add_at(history, alloc, cell.id, *limit, step) {
+        let these = changed_ends(history, &step);
+        if let Err(fault) = add_at(alloc, history, cell.id, *limit, step) {
             cell.seat = part(table, seat);
             return Err(fault);
         }
@@ -182,7 +153,7 @@ impl<'n> Journal<'n> {
     }
 }
 
-// Whether the step is done at that cell.
+/// Whether the step is done at that cell.
 #[inline(always)]
 fn is_at(network: &Network, at: CellId, step: &Step) -> bool
     ensures { IsAtCell network.now at (machine_step step.now) result }
@@ -193,8 +164,8 @@ fn is_at(network: &Network, at: CellId, step: &Step) -> bool
     }
 }
 
-// Whether the step is one of the cell's and there is room for it below the limit. Where there is
-// none, whether it may be the next.
+/// Whether the step is one of the cell's and there is room for it below the limit. Where there is
+/// none, whether it may be the next.
 #[inline(always)]
 fn make_room(
     history: &mut History<'_, SwitchRoutes<'_>, Policy>,
@@ -222,11 +193,11 @@ fn make_room(
     }
 }
 
-// Adds the step, if it is one of the cell's, may be the next, and there is room below the limit.
+/// Adds the step, if it is one of the cell's, may be the next, and there is room below the limit.
 #[inline(always)]
 fn add_at(
-    history: &mut History<'_, SwitchRoutes<'_>, Policy>,
     alloc: Global,
+    history: &mut History<'_, SwitchRoutes<'_>, Policy>,
     at: CellId,
     limit: usize,
     step: Step,

@@ -21,7 +21,7 @@ use sw_config::Network;
 use sw_net::{Net, Numbers, SwitchRoutes};
 use sw_topo::{LinkEnd, PlaceEnd};
 
-// Whether the link end stands at that cell.
+/// Whether the link end stands at that cell.
 fn stands_at(network: &Network, end: LinkEnd, id: CellId) -> bool
     requires { end < 2 * length network.now.links }
     ensures { result ≡ same_cell ((network_of network.now).start_of end) (machine_cell id) }
@@ -32,7 +32,7 @@ fn stands_at(network: &Network, end: LinkEnd, id: CellId) -> bool
     }
 }
 
-// The link ends of the cell, each with its numbers.
+/// The link ends of the cell, each with its numbers.
 fn ends_of(
     alloc: Global,
     net: &Net<'_, SwitchRoutes<'_>, Policy>,
@@ -52,7 +52,7 @@ fn ends_of(
     Ok(ends)
 }
 
-// One more cell.
+/// One more cell.
 fn open(
     alloc: Global,
     net: &Net<'_, SwitchRoutes<'_>, Policy>,
@@ -81,7 +81,7 @@ fn open(
     Ok(())
 }
 
-// The cells of all nodes, and behind these of all switches.
+/// The cells of all nodes, and behind these of all switches.
 fn open_all(
     alloc: Global,
     net: &Net<'_, SwitchRoutes<'_>, Policy>,
@@ -105,7 +105,7 @@ fn open_all(
     Ok(())
 }
 
-// The link ends of each cell stand at these places of its list.
+/// The link ends of each cell stand at these places of its list.
 fn set_places(places: &mut [u16], cells: &[Cell]) {
     for cell in cells {
         let mut place = 0u16;
@@ -118,7 +118,7 @@ fn set_places(places: &mut [u16], cells: &[Cell]) {
     }
 }
 
-// What a new journal begins with beside its history, and its cells.
+/// What a new journal begins with beside its history, and its cells.
 pub(crate) struct Opening {
     pub(crate) marks: Vec<Option<u64>>,
     pub(crate) places: Vec<u16>,
@@ -127,8 +127,8 @@ pub(crate) struct Opening {
     pub(crate) cells: Vec<Cell>,
 }
 
-// What they are for a network in its empty state.
-pub(crate) fn opened(
+/// What they are for a network in its empty state.
+pub(crate) fn opening_of(
     alloc: Global,
     net: &Net<'_, SwitchRoutes<'_>, Policy>,
 ) -> Result<Opening, AllocError>

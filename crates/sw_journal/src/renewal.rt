@@ -12,19 +12,19 @@ use sw_machine::Step;
 use sw_net::{Net, Numbers, SwitchRoutes};
 use sw_topo::LinkEnd;
 
-// The link ends whose numbers the step changes, if it may follow.
+/// The link ends whose numbers the step changes, if it may follow.
 #[inline(always)]
-pub(crate) fn changing(
+pub(crate) fn changed_ends(
     history: &History<'_, SwitchRoutes<'_>, Policy>,
     step: &Step,
 ) -> (Option<LinkEnd>, Option<LinkEnd>)
     ensures { ChangesOnlyThen history.now (machine_step step.now) result }
 {
-    history.net().changing(step)
+    history.net().changed_ends(step)
 }
 
-// The link end at this place, if it is that one, has its numbers in the net from now on. The table
-// is told where they are new.
+/// The link end at this place, if it is that one, has its numbers in the net from now on. The table
+/// is told where they are new.
 #[inline(always)]
 fn renew_one(
     net: &Net<'_, SwitchRoutes<'_>, Policy>,
@@ -57,7 +57,7 @@ fn renew_one(
     tell(table, seat, place, numbers);
 }
 
-// That link end has its numbers in the net from now on, wherever it stands, and the table is told.
+/// That link end has its numbers in the net from now on, wherever it stands, and the table is told.
 fn renew(
     net: &Net<'_, SwitchRoutes<'_>, Policy>,
     table: &CellTable,
@@ -80,7 +80,7 @@ fn renew(
     }
 }
 
-// The place of the link end in the list, if it stands where it is looked for.
+/// The place of the link end in the list, if it stands where it is looked for.
 fn seen_at(ends: &[(LinkEnd, Numbers)], end: LinkEnd, places: &[u16]) -> Option<usize>
     ensures { IfSome result (λ k. option_map (λ p. p.0) (slice_get ends.now k) ≡ Some end) }
 {
@@ -98,8 +98,8 @@ fn seen_at(ends: &[(LinkEnd, Numbers)], end: LinkEnd, places: &[u16]) -> Option<
     }
 }
 
-// The link end, if there is one, has its numbers in the net from now on, and the table is told. It
-// is looked for at its place first, and where it does not stand there, at each.
+/// The link end, if there is one, has its numbers in the net from now on, and the table is told. It
+/// is looked for at its place first, and where it does not stand there, at each.
 #[inline(always)]
 fn renew_end(
     net: &Net<'_, SwitchRoutes<'_>, Policy>,
@@ -130,7 +130,7 @@ fn renew_end(
     renew(net, table, seat, ends, end);
 }
 
-// Each of the two has its numbers in the state after the history from now on, and the table is told.
+/// Each of the two has its numbers in the state after the history from now on, and the table is told.
 #[inline(always)]
 pub(crate) fn renew_after(
     history: &History<'_, SwitchRoutes<'_>, Policy>,

@@ -72,7 +72,7 @@ pub fn faulty_file(
     file_fault(alloc, path, fault)
 }
 
-// A file that was read: its path, and its text, if that is not too long.
+/// A file that was read: its path, and its text, if that is not too long.
 fn read_value(alloc: Global, file: &(&str, Option<&[u8]>)) -> Result<Value, AllocError>
     ensures { IfOk result (λ v. view v ≡ read_value file.now.0.now (option_map (λ s. s.now) file.now.1)) }
 {
@@ -82,18 +82,18 @@ fn read_value(alloc: Global, file: &(&str, Option<&[u8]>)) -> Result<Value, Allo
     }
 }
 
-// The files of a command, each by its path.
+/// The files of a command, each by its path.
 fn file_values(alloc: Global, files: &[(&str, Option<&[u8]>)]) -> Result<Vec<Value>, AllocError>
     ensures { IfOk result (λ v. map view v.items ≡ map (λ f. read_value f.0.now (option_map (λ s. s.now) f.1)) files.now) }
 {
     let mut values = Vec::new(alloc);
     for file in files {
-        add_value(&mut values, read_value(alloc, file))?;
+        add_value(read_value(alloc, file), &mut values)?;
     }
     Ok(values)
 }
 
-// The answer of a command of these files, with what it found, if there was memory for both.
+/// The answer of a command of these files, with what it found, if there was memory for both.
 pub(crate) fn answer_to_files(
     alloc: Global,
     command: &str,
@@ -120,8 +120,8 @@ pub fn tell_memory<W: Write>(writer: &mut W) -> Ended
     ensures { IsTold (W.contents writer.old) (W.contents writer.new) memory_text 5 result }
 {
     tell(
-        writer,
         "{\"result\":{\"kind\":\"memory\"},\"status\":5}\n",
         NO_ROOM,
+        writer,
     )
 }

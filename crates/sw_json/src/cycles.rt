@@ -32,7 +32,7 @@ fn cause_value(alloc: Global, network: &Network, cause: &Cause) -> Result<Value,
     }
 }
 
-// A value for each channel, with its cause.
+/// A value for each channel, with its cause.
 fn channel_values(
     alloc: Global,
     network: &Network,
@@ -46,7 +46,7 @@ fn channel_values(
     for (channel, cause) in channels.iter().zip(causes) {
         let by = Member::Value(cause_value(alloc, network, cause)?);
         let value = channel_object(alloc, network, *channel, "by", by);
-        add_value(&mut values, value)?;
+        add_value(value, &mut values)?;
     }
     Ok(values)
 }

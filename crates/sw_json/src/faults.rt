@@ -15,12 +15,12 @@ use crate::objects::{Member, object_of};
 use crate::simple::{count_or_null, text_or_null};
 use serde_json::Value;
 use std::alloc::{AllocError, Global};
-use sw_faults::{fault_place, position_at};
+use sw_faults::{fault_offset, position_at};
 use sw_text::{TextFault, fault_text, where_text};
 use sw_topo::{Limit, TopoFault};
 
-// What has the fault, by its kind and its number.
-fn numbered(alloc: Global, kind: &str, number: u64) -> Result<String, AllocError>
+/// What has the fault, by its kind and its number.
+fn kind_and_number(alloc: Global, kind: &str, number: u64) -> Result<String, AllocError>
     ensures { IfOk result (λ s. string_bytes s ≡ spaced (kind.now ∷ decimal number ∷ [])) }
 {
     format!(in alloc; "{kind} {number}")
@@ -33,13 +33,13 @@ fn topology_where(alloc: Global, fault: TopoFault) -> Result<String, AllocError>
         TopoFault::TooMany(Limit::Nodes) => String::from_str(alloc, "node"),
         TopoFault::TooMany(Limit::Switches) => String::from_str(alloc, "switch"),
         TopoFault::TooMany(Limit::Links) => String::from_str(alloc, "link"),
-        TopoFault::PortTaken(link) => numbered(alloc, "link", u64::from(link)),
-        TopoFault::NodeLinks(node) => numbered(alloc, "node", u64::from(node)),
-        TopoFault::PortUnlinked(switch) => numbered(alloc, "switch", u64::from(switch)),
+        TopoFault::PortTaken(link) => kind_and_number(alloc, "link", u64::from(link)),
+        TopoFault::NodeLinks(node) => kind_and_number(alloc, "node", u64::from(node)),
+        TopoFault::PortUnlinked(switch) => kind_and_number(alloc, "switch", u64::from(switch)),
     }
 }
 
-// What has the fault, if there was memory for its words. Of a text that is no TOML nothing.
+/// What has the fault, if there was memory for its words. Of a text that is no TOML nothing.
 #[tactic(auto, using(crate::proofs::FaultWords::told_words))]
 fn fault_where(alloc: Global, fault: &TextFault) -> Option<Result<String, AllocError>>
     ensures { IfOk (option_transpose result) (λ o. option_map string_bytes o ≡ fault_where fault.now) }
@@ -52,12 +52,12 @@ fn fault_where(alloc: Global, fault: &TextFault) -> Option<Result<String, AllocE
         TextFault::DuplicateRoute(switch, route) => {
             Some(format!(in alloc; "switch {switch} route {route}"))
         }
-        TextFault::ReplyShape(flow) => Some(numbered(alloc, "flow", *flow as u64)),
-        TextFault::NotInFlow(packet) => Some(numbered(alloc, "packet", *packet as u64)),
+        TextFault::ReplyShape(flow) => Some(kind_and_number(alloc, "flow", *flow as u64)),
+        TextFault::NotInFlow(packet) => Some(kind_and_number(alloc, "packet", *packet as u64)),
     }
 }
 
-// A fault of these words, with its line and column.
+/// A fault of these words, with its line and column.
 fn told_fault<'a>(
     alloc: Global,
     code: &'a str,
@@ -79,7 +79,7 @@ fn told_fault<'a>(
     object_of(alloc, members)
 }
 
-// The line and the column of a byte of the text, where one is told.
+/// The line and the column of a byte of the text, where one is told.
 fn line_and_column(text: &[u8], place: Option<usize>) -> (Option<u64>, Option<u64>)
     requires { IfSome place (λ at. at ≤ length text.now) }
     ensures { result ≡ (option_map (line_of text.now) place, option_map (column_of text.now) place) }
@@ -101,7 +101,7 @@ fn line_and_column(text: &[u8], place: Option<usize>) -> (Option<u64>, Option<u6
 pub fn fault_value(alloc: Global, text: &[u8], fault: &TextFault) -> Result<Value, AllocError>
     ensures { IfOk result (λ v. IsFaultValue text.now fault.now (view v)) }
 {
-    let place = fault_place(alloc, text, fault)?;
+    let place = fault_offset(alloc, text, fault)?;
     let (line, column) = line_and_column(text, place);
     let said = fault_text(alloc, fault)?;
     let faulted = fault_where(alloc, fault).transpose()?;

@@ -28,7 +28,7 @@ pub use faults::{fault_value, long_value, schedule_fault_value, unknown_flow_val
 pub use files::{Release, audit_value, bare_entry, kind_value, read_entry};
 pub use inputs::{input_value, long_input};
 pub use lists::{add_value, flow_name_values, text_values};
-pub use object_form::{AsValue, ObjectForm, SecondFile};
+pub use object_form::{ObjectForm, SecondFile, Values};
 pub use objects::{Member, object_of};
 pub use places::{finish_text, misrouted_fault_value, place_value, place_values, start_text};
 pub use serde_json::Value;

@@ -15,8 +15,8 @@ use sw_output::flow_name;
 ///
 /// There is no memory for the longer list, or there was none for the value.
 pub fn add_value(
-    values: &mut Vec<Value>,
     value: Result<Value, AllocError>,
+    values: &mut Vec<Value>,
 ) -> Result<(), AllocError>
     ensures { OnOk result (IsOkAnd value (λ v. values.new.items ≡ values.old.items ++ v ∷ [])) }
 {
@@ -34,7 +34,7 @@ pub fn text_values(alloc: Global, texts: &[String]) -> Result<Vec<Value>, AllocE
 {
     let mut values = Vec::new(alloc);
     for text in texts {
-        add_value(&mut values, Value::try_from_str(alloc, text.as_str()))?;
+        add_value(Value::try_from_str(alloc, text.as_str()), &mut values)?;
     }
     Ok(values)
 }
@@ -54,8 +54,8 @@ pub fn flow_name_values(
     let mut values = Vec::new(alloc);
     for flow in flows {
         add_value(
-            &mut values,
             Value::try_from_str(alloc, flow_name(network, *flow)),
+            &mut values,
         )?;
     }
     Ok(values)

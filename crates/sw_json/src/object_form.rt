@@ -24,17 +24,17 @@ pub struct SecondFile<'a> {
     pub text: Option<&'a [u8]>,
 }
 
-/// What a command finds of a network, alone or with a second file, where it can be told as a value of JSON.
-pub trait AsValue: Finding {
+/// How what a command finds of a network, alone or with a second file, is told as a value of JSON.
+pub trait Values<X: Finding> {
     ghost command: { List ℕ };
 
-    ghost results_of: { List ℕ → Option (List ℕ) → Declaration → Self → Results };
+    ghost results_of: { List ℕ → List ℕ → Option (List ℕ) → Declaration → X → Results };
 
     /// The name of the command.
-    fn command() -> &'static str
+    fn command(&self) -> &'static str
         ensures { result.now ≡ command };
 
-    /// The value, with the status.
+    /// The value, with the status. `path` is the network file's.
     ///
     /// # Errors
     ///
@@ -42,18 +42,22 @@ pub trait AsValue: Finding {
     fn outcome(
         &self,
         alloc: Global,
+        path: &str,
         second: SecondFile<'_>,
         network: &Network,
+        found: &X,
     ) -> Result<CommandOutcome, AllocError>
-        requires { Self.Finding.is_of network.now self.now }
-        ensures { IfOk result (λ o. results_of second.entry.path.now (option_map (λ s. s.now) second.entry.text) network.now self.now (view o.result) o.status) };
+        requires { X.Finding.is_of network.now found.now }
+        ensures { IfOk result (λ o. results_of path.now second.entry.path.now (option_map (λ s. s.now) second.entry.text) network.now found.now (view o.result) o.status) };
 
-    ghost result_has_status: { (path : List ℕ) (second : Option (List ℕ)) (d : Declaration) (found : Self) (value : Data) (status : ℕ) → results_of path second d found value status → status ≡ Self.Finding.status_of found };
+    ghost result_has_status: { (path other : List ℕ) (second : Option (List ℕ)) (d : Declaration) (found : X) (value : Data) (status : ℕ) → results_of path other second d found value status → status ≡ X.Finding.status_of found };
 }
 
 /// The form of answers that are one object of JSON, which tells of the files of a command by their paths.
 #[derive(Clone, Copy)]
-pub struct ObjectForm<'a> {
+pub struct ObjectForm<'a, V> {
+    /// How what is found is told.
+    pub values: V,
     /// The network file's path, as it was given. It is not opened.
     pub path: &'a str,
     /// The second file's path, of a command of two.
@@ -62,7 +66,7 @@ pub struct ObjectForm<'a> {
     pub release: Release<'a>,
 }
 
-impl ObjectForm<'_> {
+impl<V> ObjectForm<'_, V> {
     /// The second file, of these bytes.
     pub fn second_file<'b>(&'b self, text: Option<&'b [u8]>) -> SecondFile<'b>
         ensures path { result.path.now ≡ second_path self.entry.now.second }
@@ -100,80 +104,46 @@ impl ObjectForm<'_> {
         };
         Ok(answer.into_bytes())
     }
-
-    /// The answer where the text of the network file is too long.
-    ///
-    /// # Errors
-    ///
-    /// There is no memory for it.
-    pub fn long_answer(
-        &self,
-        alloc: Global,
-        command: &str,
-        second: Option<&[u8]>,
-    ) -> Result<ByteAnswer, AllocError>
-        ensures { IfOk result (λ a. IsAnswer command.now (file_values self.now.path.now self.now.second None (option_map (λ s. s.now) second.entry)) self.now.release (IsLongFile self.now.path.now) a.text.items a.status) }
-    {
-        let found = long_file(alloc, self.path);
-        self.answer(alloc, command, None, second, found)
-    }
-
-    /// The answer where the text of the network file has this fault.
-    ///
-    /// # Errors
-    ///
-    /// There is no memory for it.
-    pub fn fault_answer(
-        &self,
-        alloc: Global,
-        command: &str,
-        second: Option<&[u8]>,
-        text: &[u8],
-        fault: &TextFault,
-    ) -> Result<ByteAnswer, AllocError>
-        ensures { IfOk result (λ a. IsAnswer command.now (file_values self.now.path.now self.now.second (Some text.now) (option_map (λ s. s.now) second.entry)) self.now.release (IsFaultyFile self.now.path.now text.now fault.now) a.text.items a.status) }
-    {
-        let found = faulty_file(alloc, self.path, text, fault);
-        self.answer(alloc, command, Some(text), second, found)
-    }
 }
 
-impl<X: AsValue> Form<X> for ObjectForm<'_> {
+impl<X: Finding, V: Values<X>> Form<X> for ObjectForm<'_, V> {
     ghost use Rattle.sw_json.specs.ObjectAnswers.{fault_has_status, long_has_status, result_has_status};
 
     ghost memory = { memory_text };
 
-    ghost long = { λ s second. IsAnswer X.command (file_values s.path.now s.second None second) s.release (IsLongFile s.path.now) };
+    ghost long = { λ s second. IsAnswer V.command (file_values s.path.now s.second None second) s.release (IsLongFile s.path.now) };
 
-    ghost faulty = { λ s second text fault. IsAnswer X.command (file_values s.path.now s.second (Some text) second) s.release (IsFaultyFile s.path.now text fault) };
+    ghost faulty = { λ s second text fault. IsAnswer V.command (file_values s.path.now s.second (Some text) second) s.release (IsFaultyFile s.path.now text fault) };
 
-    ghost tells = { λ s second text d found. IsAnswer X.command (file_values s.path.now s.second (Some text) second) s.release (X.results_of (second_path s.second) second d found) };
+    ghost tells = { λ s second text d found. IsAnswer V.command (file_values s.path.now s.second (Some text) second) s.release (V.results_of s.path.now (second_path s.second) second d found) };
 
-    ghost long_has_status = { λ s second. long_has_status X.command (file_values s.path.now s.second None second) s.release s.path.now };
+    ghost long_has_status = { λ s second. long_has_status V.command (file_values s.path.now s.second None second) s.release s.path.now };
 
-    ghost fault_has_status = { λ s second text fault. fault_has_status X.command (file_values s.path.now s.second (Some text) second) s.release s.path.now text fault };
+    ghost fault_has_status = { λ s second text fault. fault_has_status V.command (file_values s.path.now s.second (Some text) second) s.release s.path.now text fault };
 
-    ghost finding_has_status = { λ s second text d found. result_has_status X.command (file_values s.path.now s.second (Some text) second) s.release (X.results_of (second_path s.second) second d found) (X.Finding.status_of found) (X.result_has_status (second_path s.second) second d found) };
+    ghost finding_has_status = { λ s second text d found. result_has_status V.command (file_values s.path.now s.second (Some text) second) s.release (V.results_of s.path.now (second_path s.second) second d found) (X.Finding.status_of found) (V.result_has_status s.path.now (second_path s.second) second d found) };
 
     fn tell_memory<W: Write>(&self, writer: &mut W) -> Ended {
         tell_memory(writer)
     }
 
-    fn long(&self, alloc: Global, second: Option<&[u8]>) -> Result<ByteAnswer, AllocError> {
-        self.long_answer(alloc, X::command(), second)
+    fn long_answer(&self, alloc: Global, second: Option<&[u8]>) -> Result<ByteAnswer, AllocError> {
+        let found = long_file(alloc, self.path);
+        self.answer(alloc, self.values.command(), None, second, found)
     }
 
-    fn faulty(
+    fn fault_answer(
         &self,
         alloc: Global,
         second: Option<&[u8]>,
         text: &[u8],
         fault: &TextFault,
     ) -> Result<ByteAnswer, AllocError> {
-        self.fault_answer(alloc, X::command(), second, text, fault)
+        let found = faulty_file(alloc, self.path, text, fault);
+        self.answer(alloc, self.values.command(), Some(text), second, found)
     }
 
-    fn found(
+    fn finding_answer(
         &self,
         alloc: Global,
         second: Option<&[u8]>,
@@ -181,7 +151,9 @@ impl<X: AsValue> Form<X> for ObjectForm<'_> {
         network: &Network,
         found: &X,
     ) -> Result<ByteAnswer, AllocError> {
-        let found = found.outcome(alloc, self.second_file(second), network);
-        self.answer(alloc, X::command(), Some(text), second, found)
+        let found = self
+            .values
+            .outcome(alloc, self.path, self.second_file(second), network, found);
+        self.answer(alloc, self.values.command(), Some(text), second, found)
     }
 }

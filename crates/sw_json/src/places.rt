@@ -93,7 +93,7 @@ pub fn place_values(
 {
     let mut values = Vec::new(alloc);
     for place in places {
-        add_value(&mut values, place_value(alloc, network, *place))?;
+        add_value(place_value(alloc, network, *place), &mut values)?;
     }
     Ok(values)
 }

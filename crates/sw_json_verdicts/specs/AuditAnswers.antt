@@ -1,14 +1,16 @@
 -- What `audit` answers (this project's choice).
-use Rattle.std.specs.Prelude.{◌≡◌, ℕ, ◌+◌, Bool, false, true, List, Option, Result, Ok, Err, length, slice_get, string_bytes, Some}
+use Rattle.std.specs.Prelude.{◌≡◌, ℕ, ◌+◌, ◌∷◌, [], Bool, false, true, List, Option, Result, Ok, Err, length, slice_get, string_bytes, Some}
 use Rattle.std.specs.List.{zip}
 use Rattle.sw_json_verdicts.specs.AuditTexts.{json_text, lines_text, objects, worst}
-use Rattle.sw_json_verdicts.specs.Findings.{Finding, IsFinding}
+use Rattle.sw_json_verdicts.specs.Findings.{Finding, IsFinding, IsFoundOfFile}
 use Rattle.sw_json_verdicts.specs.Stores.{Giving, Keeping}
 use Rattle.sw_json_verdicts.specs.declared.audit_options.AuditOptions.{AuditOptions}
 use Rattle.std.specs.declared.alloc.AllocError.{AllocError}
 use Rattle.sw_text.specs.Ends.{Answers, IsTold}
 use Rattle.sw_engine.specs.LineAnswers.{memory_line}
-use Rattle.sw_engine.specs.Tellings.{TellsOr}
+use Rattle.sw_app.specs.declared.decide_finding.DecideFinding.{DecideFinding}
+use Rattle.sw_engine.specs.Tellings.{Findings, TellsOr}
+use Rattle.sw_engine.specs.declared.network_file.NetworkFile.{NetworkFile}
 use Rattle.sw_text.specs.declared.answer.Answer.{Answer}
 use Rattle.sw_text.specs.declared.write_answer.Ended.{Ended}
 use Rattle.sw_json.specs.FileValues.{audit_value}
@@ -36,11 +38,19 @@ IsTextBy true options files text = IsJson options files text
 abbrev pub IsText : AuditOptions → List (List ℕ × Finding) → List ℕ → Type 0
 IsText options = IsTextBy options.json options
 
--- of files: all findings decide the status, those that are told the text
+-- all findings decide the status, those that are told the text
+abbrev pub SaysFindings : AuditOptions → List (List ℕ) → List Finding → Answers
+SaysFindings options paths findings text status = IsText options (zip paths findings) text × (status ≡ worst findings)
+
+-- of files
 abbrev pub IsAuditAnswer : AuditOptions → Giving → Keeping → List (List ℕ) → Answers
 IsAuditAnswer options gives keeps paths text status =
-    (findings : List Finding) × AreFindings options gives keeps paths findings
-    × IsText options (zip paths findings) text × (status ≡ worst findings)
+    (findings : List Finding) × AreFindings options gives keeps paths findings × SaysFindings options paths findings text status
+
+-- of one file, of which this was read and found
+abbrev pub IsAnswerOfFile : AuditOptions → Keeping → List ℕ → NetworkFile → Findings DecideFinding → Answers
+IsAnswerOfFile options keeps path file findings text status =
+    (f : Finding) × IsFoundOfFile options keeps 1 path file findings f × SaysFindings options (path ∷ []) (f ∷ []) text status
 
 -- how it is told that memory was wanted: in a line, or as an object
 abbrev pub memory_told : Bool → List ℕ

@@ -1,12 +1,14 @@
 -- What is found of a file (this project's choice): its status, its verdict in a word, and the object that stands for both, where objects
 -- are told.
-use Rattle.std.specs.Prelude.{◌≡◌, ◌⊎◌, ℕ, Bool, false, true, List, [], codes, Result, Ok, Err, Some}
+use Rattle.std.specs.Prelude.{◌≡◌, ◌⊎◌, ℕ, Bool, false, true, List, [], codes, Result, Ok, Err, None, Some}
 use Rattle.serde_json.specs.Data.{Data}
 use Rattle.sw_json_verdicts.specs.Names.{certificate_name}
 use Rattle.sw_json_verdicts.specs.Stores.{Given, whole, too_long, unread, no_memory, Giving, Keeping}
 use Rattle.sw_json_verdicts.specs.declared.audit_options.AuditOptions.{AuditOptions}
+use Rattle.sw_app.specs.declared.decide_finding.DecideFinding.{DecideFinding}
 use Rattle.sw_config.specs.Entries.{Declaration}
 use Rattle.sw_engine.specs.Files.{IsFileOf}
+use Rattle.sw_engine.specs.Tellings.{Findings}
 use Rattle.sw_engine.specs.declared.network_file.NetworkFile.{NetworkFile}
 use Rattle.sw_engine.specs.declared.network_file.NetworkFile.TheVariants as file
 use Rattle.sw_file.specs.Network.{network_text}
@@ -88,17 +90,27 @@ IsGivenFinding options keeps number path too_long = IsBareFinding options path 3
 IsGivenFinding options keeps number path unread = IsBareFinding options path 6 (codes "unread") (kind_value (codes "unread"))
 IsGivenFinding options keeps number path no_memory = IsMemoryFinding options path
 
--- of a file as far as it could be read; of want of memory nothing
-abbrev pub IsFileFinding : AuditOptions → Keeping → ℕ → List ℕ → NetworkFile → Finding → Type 0
-IsFileFinding options keeps number path (file.Network text network) = IsVerdictFinding options keeps number path text.items network
-IsFileFinding options keeps number path (file.Faulty text fault) = IsFaultFinding options path text.items fault
-IsFileFinding options keeps number path file.TooLong = IsBareFinding options path 3 (codes "fault") long_value
-IsFileFinding options keeps number path file.Unread = IsBareFinding options path 6 (codes "unread") (kind_value (codes "unread"))
-IsFileFinding options keeps number path file.NoMemory = λ f. ⊥
+-- of a text that is a network, where this is the verdict on it
+abbrev pub IsOfVerdict : AuditOptions → Keeping → ℕ → List ℕ → List ℕ → Declaration → Verdict → Finding → Type 0
+IsOfVerdict options keeps number path text d verdict f = (is : IsVerdictFinding options keeps number path text d f) × (is.verdict ≡ verdict)
+
+-- of a text that is a network, where this was found of it; of want of memory nothing
+abbrev pub IsOfNetwork : AuditOptions → Keeping → ℕ → List ℕ → List ℕ → Declaration → Findings DecideFinding → Finding → Type 0
+IsOfNetwork options keeps number path text d (Some (Ok found)) f = IsOfVerdict options keeps number path text d found.verdict f
+IsOfNetwork options keeps number path text d (Some (Err none)) f = ⊥
+IsOfNetwork options keeps number path text d None f = ⊥
+
+-- of a file as far as it could be read, where this was found of its network; of want of memory nothing
+abbrev pub IsFileFinding : AuditOptions → Keeping → ℕ → List ℕ → NetworkFile → Findings DecideFinding → Finding → Type 0
+IsFileFinding options keeps number path (file.Network text network) findings f = IsOfNetwork options keeps number path text.items network findings f
+IsFileFinding options keeps number path (file.Faulty text fault) findings f = IsFaultFinding options path text.items fault f
+IsFileFinding options keeps number path file.TooLong findings f = IsBareFinding options path 3 (codes "fault") long_value f
+IsFileFinding options keeps number path file.Unread findings f = IsBareFinding options path 6 (codes "unread") (kind_value (codes "unread")) f
+IsFileFinding options keeps number path file.NoMemory findings f = ⊥
 
 -- the same, or that memory was wanted for it
-abbrev pub IsFoundOfFile : AuditOptions → Keeping → ℕ → List ℕ → NetworkFile → Finding → Type 0
-IsFoundOfFile options keeps number path known f = IsFileFinding options keeps number path known f ⊎ IsMemoryFinding options path f
+abbrev pub IsFoundOfFile : AuditOptions → Keeping → ℕ → List ℕ → NetworkFile → Findings DecideFinding → Finding → Type 0
+IsFoundOfFile options keeps number path known findings f = IsFileFinding options keeps number path known findings f ⊎ IsMemoryFinding options path f
 
 -- what the path gave is as a network file, unless memory was wanted
 abbrev pub IsFileOfGiven : Given → NetworkFile → Type 0

@@ -1,9 +1,9 @@
 //! What `audit` answers.
 ghost use Rattle.std.specs.Prelude.{◌≡◌, ◌∷◌, [], IfOk, map, max, string_bytes, unwrap_or};
 ghost use Rattle.std.specs.List.{reduce};
-ghost use Rattle.sw_json_verdicts.specs.AuditAnswers.{IsAuditAnswer};
+ghost use Rattle.sw_json_verdicts.specs.AuditAnswers.{IsAuditAnswer, SaysFindings};
 ghost use Rattle.sw_json_verdicts.specs.Findings.{IsFinding};
-ghost use Rattle.sw_json_verdicts.specs.Judgements.{AreJudged, finding_of};
+ghost use Rattle.sw_json_verdicts.specs.Judgements.{AreJudged, finding_of, findings_of};
 
 use crate::audit_options::AuditOptions;
 use crate::audit_texts::audit_text;
@@ -20,7 +20,7 @@ use sw_search::VerdictWorkers;
 use sw_text::Answer;
 use sw_text::statuses::GOOD;
 
-// One file's judgement as a list.
+/// One file's judgement as a list.
 fn list_of(alloc: Global, judged: Judged) -> Result<Vec<Judged>, AllocError>
     ensures { IfOk result (λ v. v.items ≡ judged ∷ []) }
 {
@@ -29,8 +29,8 @@ fn list_of(alloc: Global, judged: Judged) -> Result<Vec<Judged>, AllocError>
     Ok(all)
 }
 
-// The worst status is the greatest.
-fn worst(all: &[Judged]) -> u8
+/// The worst status is the greatest.
+fn worst_status(all: &[Judged]) -> u8
     ensures { result ≡ unwrap_or (reduce max (map (λ j. j.status) all.now)) 0 }
 {
     let mut worst = GOOD;
@@ -40,7 +40,7 @@ fn worst(all: &[Judged]) -> u8
     worst
 }
 
-// The answer to files of these paths, of which this was found.
+/// The answer to files of these paths, of which this was found.
 fn judged_answer<S: Storage>(
     alloc: Global,
     storage: &S,
@@ -49,14 +49,15 @@ fn judged_answer<S: Storage>(
     all: Vec<Judged>,
 ) -> Result<Answer, AllocError>
     requires { AreJudged options.now (S.gives storage.now) (S.keeps storage.now) (map (λ s. s.now) paths.now) all.items }
-    ensures { IfOk result (λ a. IsAuditAnswer options.now (S.gives storage.now) (S.keeps storage.now) (map (λ s. s.now) paths.now) (string_bytes a.text) a.status) }
+    ensures of_all { IfOk result (λ a. IsAuditAnswer options.now (S.gives storage.now) (S.keeps storage.now) (map (λ s. s.now) paths.now) (string_bytes a.text) a.status) }
+    ensures said { IfOk result (λ a. SaysFindings options.now (map (λ s. s.now) paths.now) (findings_of (map (λ s. s.now) paths.now) all.items) (string_bytes a.text) a.status) }
 {
     plain_at_more();
     verdicts_are_plain();
     faults_are_plain();
     kinds_are_plain();
     entries_are_plain();
-    let status = worst(&all);
+    let status = worst_status(&all);
     let text = audit_text(alloc, options, paths, all)?;
     Ok(Answer { text, status })
 }
@@ -74,7 +75,8 @@ pub(crate) fn answer_to_one<S: Storage>(
     judged: Judged,
 ) -> Result<Answer, AllocError>
     requires { IsFinding options.now (S.gives storage.now) (S.keeps storage.now) 1 path.now (finding_of path.now judged) }
-    ensures { IfOk result (λ a. IsAuditAnswer options.now (S.gives storage.now) (S.keeps storage.now) (path.now ∷ []) (string_bytes a.text) a.status) }
+    ensures of_all { IfOk result (λ a. IsAuditAnswer options.now (S.gives storage.now) (S.keeps storage.now) (path.now ∷ []) (string_bytes a.text) a.status) }
+    ensures said { IfOk result (λ a. SaysFindings options.now (path.now ∷ []) (finding_of path.now judged ∷ []) (string_bytes a.text) a.status) }
 {
     let all = list_of(alloc, judged)?;
     judged_answer(alloc, storage, &[path], options, all)

@@ -3,7 +3,7 @@ ghost use Rattle.std.specs.Prelude.{◌∷◌, [], map};
 ghost use Rattle.sw_app.specs.VerdictAnswers.{IsDecideFinding};
 ghost use Rattle.sw_engine.specs.Files.{network_of};
 ghost use Rattle.sw_engine.specs.Tellings.{HoldsOfFound};
-ghost use Rattle.sw_json_verdicts.specs.AuditAnswers.{IsAuditAnswer, IsAuditTold, TellsAudit};
+ghost use Rattle.sw_json_verdicts.specs.AuditAnswers.{IsAnswerOfFile, IsAuditAnswer, IsAuditTold, TellsAudit};
 ghost use Rattle.sw_json_verdicts.specs.Findings.{IsFileGiven};
 
 use crate::audit_answer::{answer_to_one, audit_answer};
@@ -19,12 +19,12 @@ use sw_engine::CommandEnd;
 use sw_search::VerdictWorkers;
 use sw_text::{Answer, Ended, tell};
 
-// Writes an answer, or that memory was wanted, as a line or as an object.
-fn tell_audit<W: Write>(writer: &mut W, json: bool, answer: Result<Answer, AllocError>) -> Ended
+/// Writes an answer, or that memory was wanted, as a line or as an object.
+fn tell_audit<W: Write>(json: bool, answer: Result<Answer, AllocError>, writer: &mut W) -> Ended
     ensures { IsAuditTold json answer (W.contents writer.old) (W.contents writer.new) result }
 {
     match answer {
-        Ok(answer) => tell(writer, answer.text.as_str(), answer.status),
+        Ok(answer) => tell(answer.text.as_str(), answer.status, writer),
         Err(_) => {
             if json {
                 return sw_json::tell_memory(writer);
@@ -50,7 +50,7 @@ pub fn audit<T: Threads + Sync, C: VerdictWorkers, S: Storage + Sync, W: Write>(
     ensures { TellsAudit options.now.json (W.contents writer.old) (W.contents writer.new) (IsAuditAnswer options.now (S.gives storage.now) (S.keeps storage.now) (map (λ s. s.now) paths.now)) result }
 {
     let answer = audit_answer(rt, workers, alloc, storage, paths, options);
-    tell_audit(writer, options.json, answer)
+    tell_audit(options.json, answer, writer)
 }
 
 /// The same of one file, with what was read of it and the verdict on its network. It needs nothing of the host.
@@ -65,6 +65,7 @@ pub fn audit_one<C: VerdictWorkers, S: Storage, W: Write>(
     ensures ended { TellsAudit options.now.json (W.contents writer.old) (W.contents writer.new) (IsAuditAnswer options.now (S.gives storage.now) (S.keeps storage.now) (path.now ∷ [])) result.ended }
     ensures read { IsFileGiven (S.gives storage.now path.now) result.file }
     ensures found { HoldsOfFound IsDecideFinding (network_of result.file) result.found }
+    ensures told { TellsAudit options.now.json (W.contents writer.old) (W.contents writer.new) (IsAnswerOfFile options.now (S.keeps storage.now) path.now result.file result.found) result.ended }
 {
     let number = 1;
     let JudgedFile {
@@ -79,7 +80,7 @@ pub fn audit_one<C: VerdictWorkers, S: Storage, W: Write>(
         NumberedFile { number, path },
     );
     let answer = answer_to_one(alloc, storage, path, options, judged);
-    let ended = tell_audit(writer, options.json, answer);
+    let ended = tell_audit(options.json, answer, writer);
     CommandEnd {
         ended,
         file,

@@ -12,12 +12,12 @@ use crate::judged::{Judged, kind_entry};
 use crate::statuses::is_told;
 use std::alloc::{AllocError, Global};
 use std::fmt::Write;
-use sw_faults::shown;
+use sw_faults::show;
 use sw_json::laws::audits_are_plain;
 use sw_json::{Value, audit_value, text_of};
 use sw_text::statuses::NO_ROOM;
 
-// Adds the line of a file, if it is told: the status, the verdict in a word, and the path as a terminal shows it.
+/// Adds the line of a file, if it is told: the status, the verdict in a word, and the path as a terminal shows it.
 fn add_line(
     alloc: Global,
     quiet: bool,
@@ -32,11 +32,11 @@ fn add_line(
     }
     let status = judged.status;
     let word = judged.word;
-    let path = shown(alloc, path.as_bytes())?;
+    let path = show(alloc, path.as_bytes())?;
     write!(text, "{status} {word} {path}\n")
 }
 
-// A line for each file that is told.
+/// A line for each file that is told.
 fn lines_text(
     alloc: Global,
     quiet: bool,
@@ -52,7 +52,7 @@ fn lines_text(
     Ok(text)
 }
 
-// The object of a file.
+/// The object of a file.
 fn object_of(alloc: Global, path: &str, entry: Option<Value>) -> Result<Value, AllocError>
     ensures { IfOk result (λ v. view v ≡ object_of path.now entry) }
 {
@@ -62,7 +62,7 @@ fn object_of(alloc: Global, path: &str, entry: Option<Value>) -> Result<Value, A
     }
 }
 
-// Adds the object of a file, if it is told.
+/// Adds the object of a file, if it is told.
 fn add_object(
     alloc: Global,
     quiet: bool,
@@ -85,7 +85,7 @@ fn add_object(
     Ok(())
 }
 
-// The objects of the files that are told.
+/// The objects of the files that are told.
 fn objects(
     alloc: Global,
     quiet: bool,
@@ -101,7 +101,7 @@ fn objects(
     Ok(values)
 }
 
-// One object for all files that are told.
+/// One object for all files that are told.
 fn json_text(
     alloc: Global,
     options: &AuditOptions<'_>,

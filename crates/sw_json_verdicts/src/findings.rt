@@ -8,7 +8,7 @@ ghost use Rattle.sw_json.specs.FaultValues.{long_value};
 ghost use Rattle.sw_json.specs.FileValues.{kind_value};
 ghost use Rattle.sw_json.specs.VerdictValues.{certificate_bytes};
 ghost use Rattle.sw_search.specs.Verdicts.{IsVerdict};
-ghost use Rattle.sw_json_verdicts.specs.Findings.{IsBareFinding, IsFaultFinding, IsFileFinding, IsFileGiven, IsFinding, IsFoundOfFile, IsStatus, IsVerdictEntry, IsVerdictFinding};
+ghost use Rattle.sw_json_verdicts.specs.Findings.{IsBareFinding, IsFaultFinding, IsFileFinding, IsFileGiven, IsFinding, IsFoundOfFile, IsOfVerdict, IsStatus, IsVerdictEntry};
 ghost use Rattle.sw_json_verdicts.specs.Judgements.{finding_of};
 ghost use Rattle.sw_json_verdicts.specs.Names.{certificate_name};
 
@@ -27,7 +27,7 @@ use sw_search::{Verdict, VerdictWorkers};
 use sw_text::statuses::{BAD, FAULTY, GOOD, UNREAD_OR_UNWRITTEN};
 use sw_text::{InputText, TextFault};
 
-// The text of the certificate where it is told or kept; empty where the verdict has none, or none is wanted.
+/// The text of the certificate where it is told or kept; empty where the verdict has none, or none is wanted.
 fn wanted_certificate(
     alloc: Global,
     options: &AuditOptions<'_>,
@@ -47,7 +47,7 @@ fn wanted_certificate(
     }
 }
 
-// The status of a verdict, whose certificate is kept if that is asked for.
+/// The status of a verdict, whose certificate is kept if that is asked for.
 fn status_of<S: Storage>(
     alloc: Global,
     storage: &S,
@@ -72,7 +72,7 @@ fn status_of<S: Storage>(
     }
 }
 
-// The object of a file with a verdict.
+/// The object of a file with a verdict.
 fn verdict_entry(
     alloc: Global,
     path: &str,
@@ -91,7 +91,7 @@ fn verdict_entry(
     read_entry(alloc, path, text, &lint, status, value)
 }
 
-// What is found of a network on which there is this verdict.
+/// What is found of a network on which there is this verdict.
 fn verdict_judged<S: Storage>(
     alloc: Global,
     storage: &S,
@@ -102,7 +102,7 @@ fn verdict_judged<S: Storage>(
     verdict: &Verdict,
 ) -> Result<Judged, AllocError>
     requires { IsVerdict network.now verdict.now }
-    ensures { IfOk result (λ j. IsVerdictFinding options.now (S.keeps storage.now) named.entry.number named.entry.path.now text.now network.now (finding_of named.entry.path.now j)) }
+    ensures { IfOk result (λ j. IsOfVerdict options.now (S.keeps storage.now) named.entry.number named.entry.path.now text.now network.now verdict.now (finding_of named.entry.path.now j)) }
 {
     let certificate = wanted_certificate(alloc, options, verdict)?;
     let keeping = options.certificates;
@@ -124,7 +124,7 @@ fn verdict_judged<S: Storage>(
     })
 }
 
-// What is found of a text with a fault.
+/// What is found of a text with a fault.
 fn fault_judged(
     alloc: Global,
     options: &AuditOptions<'_>,
@@ -150,7 +150,7 @@ fn fault_judged(
     })
 }
 
-// What is found of a text that is too long.
+/// What is found of a text that is too long.
 fn long_judged(alloc: Global, options: &AuditOptions<'_>, path: &str) -> Result<Judged, AllocError>
     ensures { IfOk result (λ j. IsBareFinding options.now path.now 3 (codes "fault") long_value (finding_of path.now j)) }
 {
@@ -169,7 +169,7 @@ fn long_judged(alloc: Global, options: &AuditOptions<'_>, path: &str) -> Result<
     })
 }
 
-// What is found of a path that can't be read.
+/// What is found of a path that can't be read.
 fn unread_judged(
     alloc: Global,
     options: &AuditOptions<'_>,
@@ -202,19 +202,25 @@ fn file_judged<S: Storage>(
     found: &Option<Result<DecideFinding, AllocError>>,
 ) -> Result<Judged, AllocError>
     requires { HoldsOfFound IsDecideFinding (network_of file.now) found.now }
-    ensures { IfOk result (λ j. IsFileFinding options.now (S.keeps storage.now) named.entry.number named.entry.path.now file.now (finding_of named.entry.path.now j)) }
+    ensures { IfOk result (λ j. IsFileFinding options.now (S.keeps storage.now) named.entry.number named.entry.path.now file.now found.now (finding_of named.entry.path.now j)) }
 {
-    match (file, found) {
-        (NetworkFile::Network { text, network }, Some(Ok(found))) => {
-            let verdict = &found.verdict;
-            verdict_judged(alloc, storage, options, named, text, network, verdict)
-        }
-        (NetworkFile::Faulty { text, fault }, _) => {
+    match file {
+        NetworkFile::Network { text, network } => match found {
+            Some(made) => match made {
+                Ok(found) => {
+                    let verdict = &found.verdict;
+                    verdict_judged(alloc, storage, options, named, text, network, verdict)
+                }
+                Err(_) => Err(AllocError),
+            },
+            None => Err(AllocError),
+        },
+        NetworkFile::Faulty { text, fault } => {
             fault_judged(alloc, options, named.path, text, fault)
         }
-        (NetworkFile::TooLong, _) => long_judged(alloc, options, named.path),
-        (NetworkFile::Unread, _) => unread_judged(alloc, options, named.path),
-        _ => Err(AllocError),
+        NetworkFile::TooLong => long_judged(alloc, options, named.path),
+        NetworkFile::Unread => unread_judged(alloc, options, named.path),
+        NetworkFile::NoMemory => Err(AllocError),
     }
 }
 
@@ -228,7 +234,7 @@ fn file_or_memory<S: Storage>(
     found: &Option<Result<DecideFinding, AllocError>>,
 ) -> Judged
     requires { HoldsOfFound IsDecideFinding (network_of file.now) found.now }
-    ensures { IsFoundOfFile options.now (S.keeps storage.now) named.entry.number named.entry.path.now file.now (finding_of named.entry.path.now result) }
+    ensures { IsFoundOfFile options.now (S.keeps storage.now) named.entry.number named.entry.path.now file.now found.now (finding_of named.entry.path.now result) }
 {
     match file_judged(alloc, storage, options, named, file, found) {
         Ok(judged) => judged,
@@ -267,6 +273,7 @@ pub(crate) fn judge_file<T: VerdictWorkers, S: Storage>(
     ensures judged { IsFinding options.now (S.gives storage.now) (S.keeps storage.now) named.entry.number named.entry.path.now (finding_of named.entry.path.now result.judged) }
     ensures read { IsFileGiven (S.gives storage.now named.entry.path.now) result.file }
     ensures found { HoldsOfFound IsDecideFinding (network_of result.file) result.found }
+    ensures told { IsFoundOfFile options.now (S.keeps storage.now) named.entry.number named.entry.path.now result.file result.found (finding_of named.entry.path.now result.judged) }
 {
     let file = read_file(alloc, storage, named.path);
     let found = match file.network() {

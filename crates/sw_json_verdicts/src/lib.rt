@@ -19,10 +19,10 @@ mod report_values;
 mod route_values;
 mod statuses;
 mod stores;
-mod verdict_object;
+mod verdict_values;
 
 pub use audit_engine::{audit, audit_one};
 pub use audit_options::AuditOptions;
 pub use stores::{AuditInput, Storage};
 pub use sw_json::Release;
-pub use verdict_object::VerdictObject;
+pub use verdict_values::VerdictValues;

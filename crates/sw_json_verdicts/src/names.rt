@@ -8,7 +8,7 @@ use std::alloc::{AllocError, Global};
 /// At most this many bytes of a file's name stand in that of its certificate.
 const MOST_NAMED: usize = 64;
 
-// What stands behind the last `/`.
+/// What stands behind the last `/`.
 fn file_name(path: &str) -> &str
     ensures { result.now ≡ file_name path.now }
 {
@@ -18,7 +18,7 @@ fn file_name(path: &str) -> &str
     }
 }
 
-// A byte that a name of a network file may have.
+/// A byte that a name of a network file may have.
 fn is_name_byte(byte: u8) -> bool
     ensures { result ≡ is_name_byte byte }
 {
@@ -31,8 +31,8 @@ fn plain_byte(byte: u8) -> u8
     if is_name_byte(byte) { byte } else { b'_' }
 }
 
-// The first bytes, as many as are told and as a name may have them.
-fn plain(alloc: Global, name: &[u8]) -> Result<String, AllocError>
+/// The first bytes, as many as are told and as a name may have them.
+fn plain_name(alloc: Global, name: &[u8]) -> Result<String, AllocError>
     ensures { IfOk result (λ s. string_bytes s ≡ map plain_byte (take 64 name.now)) }
 {
     let mut text = String::new(alloc);
@@ -54,6 +54,6 @@ pub(crate) fn certificate_name(
 ) -> Result<String, AllocError>
     ensures { IfOk result (λ s. string_bytes s ≡ certificate_name number path.now) }
 {
-    let name = plain(alloc, file_name(path).as_bytes())?;
+    let name = plain_name(alloc, file_name(path).as_bytes())?;
     format!(in alloc; "{number}-{name}.cert")
 }

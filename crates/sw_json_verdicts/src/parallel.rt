@@ -11,7 +11,7 @@ use std::alloc::{AllocError, Global};
 use std::thread::Threads;
 use sw_graph::OneByOne;
 
-// What is found of the file of that place.
+/// What is found of the file of that place.
 fn judged_at<S: Storage>(
     alloc: Global,
     storage: &S,

@@ -22,8 +22,8 @@ pub(crate) struct ReasonParts<'a> {
     pub(crate) next: Option<u64>,
 }
 
-// A reason with its code alone.
-fn bare<'a>(code: &'static str) -> ReasonParts<'a>
+/// A reason with its code alone.
+fn bare_reason<'a>(code: &'static str) -> ReasonParts<'a>
     ensures { reason_parts_view result ≡ bare_reason code.now }
 {
     ReasonParts {
@@ -43,12 +43,12 @@ pub(crate) fn grammar_parts<'a>(number: usize) -> ReasonParts<'a>
 {
     ReasonParts {
         line: Some(number as u64),
-        ..bare("C1")
+        ..bare_reason("C1")
     }
 }
 
-// A reason with this code at a place of a flow.
-fn placed<'a>(
+/// A reason with this code at a place of a flow.
+fn placed_reason<'a>(
     network: &'a Network,
     code: &'static str,
     flow: u16,
@@ -62,7 +62,7 @@ fn placed<'a>(
         deleted: Some(u64::from(place.deleted)),
         fault,
         flow: Some(flow_name(network, flow)),
-        ..bare(code)
+        ..bare_reason(code)
     }
 }
 
@@ -71,19 +71,19 @@ pub(crate) fn parts_of<'a>(network: &'a Network, refusal: &Refusal) -> ReasonPar
     ensures { reason_parts_view result ≡ reason_of network.entry.now refusal.now }
 {
     match refusal {
-        Refusal::WrongCount => bare("C2"),
+        Refusal::WrongCount => bare_reason("C2"),
         Refusal::NoStart(flow) => ReasonParts {
             flow: Some(flow_name(network, *flow)),
-            ..bare("C3")
+            ..bare_reason("C3")
         },
-        Refusal::NotClosed(flow, place) => placed(network, "C4", *flow, *place, None),
+        Refusal::NotClosed(flow, place) => placed_reason(network, "C4", *flow, *place, None),
         Refusal::NotRising(channel, next) => ReasonParts {
             channel: Some(u64::from(channel.number())),
             next: Some(u64::from(next.number())),
-            ..bare("C5")
+            ..bare_reason("C5")
         },
         Refusal::Faulty(flow, place, fault) => {
-            placed(network, "C6", *flow, *place, Some(route_fault_code(*fault)))
+            placed_reason(network, "C6", *flow, *place, Some(route_fault_code(*fault)))
         }
     }
 }

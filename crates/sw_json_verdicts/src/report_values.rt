@@ -13,7 +13,7 @@ use sw_json::{CommandOutcome, Member, Value, object_of, verdict_value};
 use sw_search::{Findings, Verdict};
 use sw_text::statuses::GOOD;
 
-// The text of a verdict's certificate; of a verdict without one, nothing.
+/// The text of a verdict's certificate; of a verdict without one, nothing.
 fn certificate_text(alloc: Global, verdict: &Verdict) -> Result<Vec<u8>, AllocError>
     ensures { IfOk result (λ text. text.items ≡ certificate_bytes verdict.now) }
 {
@@ -23,7 +23,7 @@ fn certificate_text(alloc: Global, verdict: &Verdict) -> Result<Vec<u8>, AllocEr
     }
 }
 
-// How many parts the network has, with its verdict.
+/// How many parts the network has, with its verdict.
 fn told_report(
     alloc: Global,
     network: &Network,

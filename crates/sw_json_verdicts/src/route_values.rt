@@ -20,7 +20,7 @@ use sw_json::{
     unknown_flow_value,
 };
 
-// A place with its fault, or null where there is none.
+/// A place with its fault, or null where there is none.
 fn fault_or_null(alloc: Global, fault: Option<(Place, RouteFault)>) -> Result<Value, AllocError>
     ensures { IfOk result (λ v. view v ≡ fault_or_null fault) }
 {
@@ -39,7 +39,7 @@ fn kind_of(fault: &Option<(Place, RouteFault)>) -> &'static str
     }
 }
 
-// The flow's name, its places, and the fault of one of them, if there is one.
+/// The flow's name, its places, and the fault of one of them, if there is one.
 fn told_route(
     alloc: Global,
     network: &Network,
@@ -64,7 +64,7 @@ fn told_route(
     object_of(alloc, members)
 }
 
-// The result for a flow.
+/// The result for a flow.
 fn flow_outcome(
     alloc: Global,
     network: &Network,
@@ -79,7 +79,7 @@ fn flow_outcome(
     Ok(CommandOutcome { result, status })
 }
 
-// The result where no flow has the name.
+/// The result where no flow has the name.
 fn unknown_outcome(alloc: Global, path: &str) -> Result<CommandOutcome, AllocError>
     ensures { IfOk result (λ o. IsCommandOutcome (file_fault_value path.now unknown_flow_value) 3 (view o.result) o.status) }
 {

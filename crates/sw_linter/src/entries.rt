@@ -23,15 +23,15 @@ pub(crate) enum EntrySlip {
     Back,
 }
 
-// The ports of the entry that have a link.
-fn linked(network: &Network, switch: u16, route: &Route) -> PortSet
+/// The ports of the entry that have a link.
+fn linked_ports(network: &Network, switch: u16, route: &Route) -> PortSet
     requires { switch < length network.now.switches }
     ensures { ports_of result ≡ linked network.now switch route.now }
 {
     route.ports.meet(network.topology().linked(switch))
 }
 
-// The entry, if it names several ports of which one alone has a link.
+/// The entry, if it names several ports of which one alone has a link.
 fn one_linked_port(network: &Network, switch: u16, entry: usize, route: &Route) -> Option<Lint>
     requires { switch < length network.now.switches }
     ensures { option_to_list result ≡ one_linked_port network.now switch entry route.now }
@@ -39,7 +39,7 @@ fn one_linked_port(network: &Network, switch: u16, entry: usize, route: &Route) 
     if route.ports.len() <= 1 {
         return None;
     }
-    let mut ports = linked(network, switch, route).ports();
+    let mut ports = linked_ports(network, switch, route).ports();
     let port = ports.next()?;
     match ports.next() {
         Some(_) => None,
@@ -51,7 +51,7 @@ fn one_linked_port(network: &Network, switch: u16, entry: usize, route: &Route) 
     }
 }
 
-// The first port of the entry by which packets come that it is for, and the first flow of those to the least address of the entry.
+/// The first port of the entry by which packets come that it is for, and the first flow of those to the least address of the entry.
 fn first_back(
     network: &Network,
     marks: &Marks,
@@ -78,7 +78,7 @@ fn first_back(
     None
 }
 
-// The entry, if it is what is looked for.
+/// The entry, if it is what is looked for.
 fn entry_lint(
     network: &Network,
     marks: &Marks,
@@ -100,7 +100,7 @@ fn entry_lint(
         }
         EntrySlip::OneLinked => one_linked_port(network, switch, entry, route),
         EntrySlip::Back => {
-            if linked(network, switch, route).len() > 1 {
+            if linked_ports(network, switch, route).len() > 1 {
                 first_back(network, marks, switch, entry, route)
             } else {
                 None

@@ -11,7 +11,7 @@ use crate::slips::{Slip, add_slips};
 use std::alloc::{AllocError, Global};
 use sw_config::Network;
 
-// What is looked for, in the order in which it is told.
+/// What is looked for, in the order in which it is told.
 const SLIPS: &[Slip] = &[
     Slip::Node,
     Slip::Switch,
@@ -22,7 +22,7 @@ const SLIPS: &[Slip] = &[
     Slip::Link,
 ];
 
-// What is told by what is noted of the places of flows, one kind of slip after the other.
+/// What is told by what is noted of the places of flows, one kind of slip after the other.
 fn found_by(alloc: Global, network: &Network, marks: &Marks) -> Result<Vec<Lint>, AllocError>
     ensures { IfOk result (λ v. v.items ≡ unused_by network.now (nodes_of network.now) marks.now ++ doubtful_by network.now marks.now) }
 {

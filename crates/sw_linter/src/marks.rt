@@ -87,7 +87,7 @@ impl Marks {
     ghost use Rattle.sw_config.specs.Entries.{all_flows};
     ghost use Rattle.sw_linter.specs.Marks.{IsFlowNoted, IsNoted, first_led, is_met_by, is_used_by, no_places, no_rooms, pair_by, with_command, with_place};
 
-    // Places for the marks of each switch and each channel, none set.
+    /// Places for the marks of each switch and each channel, none set.
     fn make_room(&mut self, network: &Network) -> Result<(), AllocError>
         requires { self.old ≡ no_rooms }
         ensures { OnOk result (self.new ≡ no_places network.now) }
@@ -103,7 +103,7 @@ impl Marks {
             .and(self.other.resize(channels, None))
     }
 
-    // On the place's channel, if the flow has a reply.
+    /// On the place's channel, if the flow has a reply.
     fn note_command(&mut self, network: &Network, number: u16, flow: &Flow, channel: Chan)
         ensures { self.new ≡ with_command network.now self.old number flow.now channel }
     {
@@ -121,7 +121,7 @@ impl Marks {
         }
     }
 
-    // One place more: at the switches where its channel starts and ends, and on the channel.
+    /// One place more: at the switches where its channel starts and ends, and on the channel.
     fn note_place(&mut self, network: &Network, number: u16, flow: &Flow, place: Place)
         requires { place.channel < length (ends_of network.now) }
         ensures { self.new ≡ with_place network.now self.old (record { number = number; flow = flow.now; place = place }) }
@@ -141,7 +141,7 @@ impl Marks {
         self.note_command(network, number, flow, place.channel);
     }
 
-    // The places of the flow of that number.
+    /// The places of the flow of that number.
     fn note_number(
         &mut self,
         alloc: Global,
@@ -159,7 +159,7 @@ impl Marks {
         Ok(())
     }
 
-    // The places of all flows of the network. Of a flow like the last one there is nothing new.
+    /// The places of all flows of the network. Of a flow like the last one there is nothing new.
     fn note_all(&mut self, alloc: Global, network: &Network) -> Result<(), AllocError>
         requires { self.old ≡ no_rooms }
         ensures { OnOk result (IsNoted network.now self.new) }
@@ -220,7 +220,7 @@ impl Marks {
 
     /// Two flows with replies that go over the link both ways, to two targets one of which does not always take what comes, if there are
     /// such: of the first ones both ways, and the first ones whose commands may have to wait elsewhere, the first two.
-    pub(crate) fn opposed(&self, link: u16) -> Option<Lint>
+    pub(crate) fn opposed_flows(&self, link: u16) -> Option<Lint>
         ensures { result ≡ pair_by self.now link }
     {
         let a = 2 * usize::from(link);

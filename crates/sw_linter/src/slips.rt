@@ -24,7 +24,7 @@ pub(crate) enum Slip {
     Link,
 }
 
-// What is told of the node, the switch or the link of that number.
+/// What is told of the node, the switch or the link of that number.
 fn add_at(
     network: &Network,
     nodes: &NodeMarks,
@@ -45,11 +45,11 @@ fn add_at(
             let routes = network.routes(number);
             add_entries_of(network, marks, entry, number, routes, lints)
         }
-        Slip::Link => add(marks.opposed(number), lints),
+        Slip::Link => add(marks.opposed_flows(number), lints),
     }
 }
 
-// How many nodes, switches or links there are to look at.
+/// How many nodes, switches or links there are to look at.
 fn count_of(network: &Network, slip: Slip) -> u16
     ensures { result ≡ count_of network.now slip }
 {

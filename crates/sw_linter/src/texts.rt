@@ -11,7 +11,7 @@ use sw_config::Network;
 use sw_output::{channel_text, entry_words, flow_name, node_name, switch_name};
 use sw_topo::{Chan, Port};
 
-// What is told of an entry of the switch's table, its addresses, and the switch.
+/// What is told of an entry of the switch's table, its addresses, and the switch.
 fn of_entry(
     alloc: Global,
     told: &str,
@@ -26,7 +26,7 @@ fn of_entry(
     format!(in alloc; "{told} {words} at {name}")
 }
 
-// The node to which the flow goes.
+/// The node to which the flow goes.
 fn end_name(network: &Network, flow: u16) -> &str
     ensures { result.now ≡ end_name network.now flow }
 {
@@ -37,8 +37,8 @@ fn end_name(network: &Network, flow: u16) -> &str
     }
 }
 
-// What is told of a node or a switch, and its name.
-fn named(alloc: Global, told: &str, name: &str) -> Result<String, AllocError>
+/// What is told of a node or a switch, and its name.
+fn with_name(alloc: Global, told: &str, name: &str) -> Result<String, AllocError>
     ensures { IfOk result (λ s. string_bytes s ≡ spaced (told.now ∷ name.now ∷ [])) }
 {
     [told, name].join(alloc, " ")
@@ -74,7 +74,7 @@ fn leads_back(
     format!(in alloc; "{group} may lead packets of {name} back over port {port} by which they come")
 }
 
-// The link, from its end a to its end b.
+/// The link, from its end a to its end b.
 fn link_text(alloc: Global, network: &Network, link: u16) -> Result<String, AllocError>
     ensures { IfOk result (λ s. string_bytes s ≡ channel_text network.now (2 * link)) }
 {
@@ -84,7 +84,7 @@ fn link_text(alloc: Global, network: &Network, link: u16) -> Result<String, Allo
     channel_text(alloc, network, Chan::new(2 * link))
 }
 
-fn opposed(
+fn opposed_text(
     alloc: Global,
     network: &Network,
     link: u16,
@@ -103,23 +103,23 @@ fn opposed(
     )
 }
 
-// The text of what is told.
+/// The text of what is told.
 fn lint_text(alloc: Global, network: &Network, lint: &Lint) -> Result<String, AllocError>
     ensures { IfOk result (λ s. string_bytes s ≡ lint_text network.now lint.now) }
 {
     match lint {
         Lint::NoFlows => String::from_str(alloc, "the network has no flows"),
-        Lint::UnusedNode(node) => named(
+        Lint::UnusedNode(node) => with_name(
             alloc,
             "no flow is from or to the node",
             node_name(network, *node),
         ),
-        Lint::UnusedSwitch(switch) => named(
+        Lint::UnusedSwitch(switch) => with_name(
             alloc,
             "no flow goes over the switch",
             switch_name(network, *switch),
         ),
-        Lint::UnusedTarget(node) => named(
+        Lint::UnusedTarget(node) => with_name(
             alloc,
             "no flow goes to the target",
             node_name(network, *node),
@@ -142,11 +142,11 @@ fn lint_text(alloc: Global, network: &Network, lint: &Lint) -> Result<String, Al
             port,
             flow,
         } => leads_back(alloc, network, *switch, *entry, *port, *flow),
-        Lint::Opposed { link, onward, back } => opposed(alloc, network, *link, *onward, *back),
+        Lint::Opposed { link, onward, back } => opposed_text(alloc, network, *link, *onward, *back),
     }
 }
 
-// Adds the text of what is told.
+/// Adds the text of what is told.
 fn add_text(
     alloc: Global,
     network: &Network,
@@ -175,7 +175,7 @@ pub fn lint_texts(alloc: Global, network: &Network) -> Result<Vec<String>, Alloc
     Ok(texts)
 }
 
-// What can prevent it.
+/// What can prevent it.
 fn cure_words(lint: &Lint) -> &'static str
     ensures { result.now ≡ cure_words lint.now }
 {
@@ -187,7 +187,7 @@ fn cure_words(lint: &Lint) -> &'static str
     }
 }
 
-// As a note on standard error.
+/// As a note on standard error.
 fn note_text(alloc: Global, network: &Network, lint: &Lint) -> Result<String, AllocError>
     ensures { IfOk result (λ s. string_bytes s ≡ note_text network.now lint.now) }
 {
@@ -196,7 +196,7 @@ fn note_text(alloc: Global, network: &Network, lint: &Lint) -> Result<String, Al
     Ok(text)
 }
 
-// Adds the note on what is told.
+/// Adds the note on what is told.
 fn add_note(
     alloc: Global,
     network: &Network,

@@ -7,7 +7,8 @@ use Rattle.toml.specs.Data.{Members}
 use Rattle.sw_char.specs.declared.nchar.End.{End}
 use Rattle.sw_load.specs.Laws.{IsListedBy, ReadsEachEntry, AreDeclared, ListedAreDeclared}
 use Rattle.sw_machine.proofs.Declared.{declared_packets_pass}
-use Rattle.sw_load.specs.Load.{LoadEntry, cargo_at, count_at, document_keys, flow_at, load_of, marker_at, next_packet, packet_count, packet_keys, packet_of}
+use Rattle.sw_text.specs.SectionKeys.{packet_keys}
+use Rattle.sw_load.specs.Load.{LoadEntry, cargo_at, count_at, document_keys, flow_at, load_of, marker_at, next_packet, packet_count, packet_of}
 use Rattle.sw_machine.specs.DeclaredPackets.{IsDeclaredPacket, is_declared_packet}
 use Rattle.sw_config.specs.Entries.{Declaration}
 use Rattle.sw_text.specs.Document.{document_of}

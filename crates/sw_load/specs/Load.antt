@@ -14,6 +14,7 @@ use Rattle.sw_text.specs.declared.fault.TextFault.TheVariants as fault
 use Rattle.sw_text.specs.Gives.{◌>>=◌, ok_or, walk}
 use Rattle.sw_text.specs.Table.{only_known, number_or, text_at, text_or_none, tables_or_none}
 use Rattle.sw_text.specs.Document.{document_of}
+use Rattle.sw_text.specs.SectionKeys.{packet_keys}
 use Rattle.sw_machine.specs.DeclaredPackets.{is_declared_packet}
 use Rattle.sw_load.specs.Cargo.{cargo_of}
 
@@ -35,9 +36,6 @@ pub record IsTotal (load : List LoadEntry) (total : ℕ) : Type 0 where
 
 abbrev pub document_keys : List Key
 document_keys = Packet ∷ []
-
-abbrev pub packet_keys : List Key
-packet_keys = Flow ∷ Cargo ∷ EndKey ∷ Count ∷ []
 
 -- the number of the declared flow that entry i names
 unfoldable pub flow_at : ℕ → List FlowEntry → Members → Result ℕ TextFault

@@ -11,6 +11,7 @@ use std::marker::Model;
 use sw_char::End;
 use sw_config::Network;
 use sw_machine::in_flow;
+use sw_text::section_keys::PACKET_KEYS;
 use sw_text::{FileFault, Key, KeyFault, Section, TableEntry, TextFault, read_document};
 use toml::Table;
 
@@ -18,8 +19,6 @@ use toml::Table;
 const MAX_ENTRIES: usize = 4096;
 
 const DOCUMENT_KEYS: &[Key] = &[Key::Packet];
-
-const PACKET_KEYS: &[Key] = &[Key::Flow, Key::Cargo, Key::End, Key::Count];
 
 #[tactic(auto, unfolding(crate::specs::Load::flow_at))]
 fn flow_at(index: usize, packet: &TableEntry, network: &Network) -> Result<u16, FileFault>

@@ -14,4 +14,4 @@ mod step;
 pub use input::InputState;
 pub use packets::in_flow;
 pub use reply::{left_bytes, reply_length};
-pub use step::Step;
+pub use step::{Move, Step};

@@ -6,12 +6,12 @@ ghost use Rattle.sw_margin.specs.Waits.{AreDependencies};
 use crate::bend::Bend;
 use crate::chosen::is_unanswered;
 use crate::trial::bend;
-use crate::way::answered;
+use crate::way::waits_where_answered;
 use std::alloc::{AllocError, Global};
 use sw_config::Network;
 use sw_search::VerdictWorkers;
 
-// What is told of the flow of that number.
+/// What is told of the flow of that number.
 fn told_of<W: VerdictWorkers>(
     workers: &W,
     alloc: Global,
@@ -23,7 +23,7 @@ fn told_of<W: VerdictWorkers>(
     requires flow { flow < length network.now.flows }
     ensures { IfOk result (IsAnswer network.now flow) }
 {
-    let waits = answered(alloc, network, network.flow(flow))?;
+    let waits = waits_where_answered(alloc, network, network.flow(flow))?;
     bend(workers, alloc, network, rows, flow, &waits)
 }
 

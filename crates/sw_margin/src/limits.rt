@@ -10,7 +10,7 @@ use sw_config::Network;
 use sw_mend::network_with_outstanding;
 use sw_search::{VerdictWorkers, is_free};
 
-// Is the network free where so many commands of the flow may be unanswered, or any number of them?
+/// Is the network free where so many commands of the flow may be unanswered, or any number of them?
 fn is_free_with<W: VerdictWorkers>(
     workers: &W,
     alloc: Global,
@@ -27,8 +27,8 @@ fn is_free_with<W: VerdictWorkers>(
     free
 }
 
-// The greatest number of unanswered commands of the flow, from its own limit on, with which the network is free: it is not with any.
-fn greatest<W: VerdictWorkers>(
+/// The greatest number of unanswered commands of the flow, from its own limit on, with which the network is free: it is not with any.
+fn greatest_limit<W: VerdictWorkers>(
     workers: &W,
     alloc: Global,
     network: &Network,
@@ -47,7 +47,7 @@ fn greatest<W: VerdictWorkers>(
     Ok(u16::MAX)
 }
 
-// How many commands of the flow, which has that limit of its own, may be unanswered.
+/// How many commands of the flow, which has that limit of its own, may be unanswered.
 fn most_of<W: VerdictWorkers>(
     workers: &W,
     alloc: Global,
@@ -61,7 +61,7 @@ fn most_of<W: VerdictWorkers>(
     if is_free_with(workers, alloc, network, flow, None)? {
         return Ok(None);
     }
-    Ok(Some(greatest(workers, alloc, network, flow, own)?))
+    Ok(Some(greatest_limit(workers, alloc, network, flow, own)?))
 }
 
 /// Of each declared flow that has a limit of its own on unanswered commands: how many may be unanswered for the network to be free. Any

@@ -12,7 +12,7 @@ use sw_config::{Flow, Network};
 use sw_flow::{Followers, Place, followers_in};
 use sw_graph::{add_to_row, empty_rows};
 
-// Are all these places on that link?
+/// Are all these places on that link?
 fn are_on_link(places: Followers<'_>, link: u16) -> bool
     ensures { result ≡ list_all (λ q. q.channel / 2 == link) places.entry }
 {
@@ -24,7 +24,7 @@ fn are_on_link(places: Followers<'_>, link: u16) -> bool
     true
 }
 
-// The link of the first place, if the others are on it too.
+/// The link of the first place, if the others are on it too.
 fn link_of_all(first: &Place, rest: Followers<'_>) -> Option<u16>
     ensures { result ≡ only_link (first.now ∷ rest.entry) }
 {
@@ -36,7 +36,7 @@ fn link_of_all(first: &Place, rest: Followers<'_>) -> Option<u16>
     }
 }
 
-// The link on which all these places are, if there are some.
+/// The link on which all these places are, if there are some.
 fn only_link(mut places: Followers<'_>) -> Option<u16>
     ensures { result ≡ only_link places.entry }
 {
@@ -46,7 +46,7 @@ fn only_link(mut places: Followers<'_>) -> Option<u16>
     }
 }
 
-// The link over which alone the flow goes on from that place.
+/// The link over which alone the flow goes on from that place.
 fn link_after(network: &Network, flow: &Flow, place: &Place) -> Option<u16>
     requires { IsFlow network.now.nodes flow.now }
     ensures link { result ≡ link_after network.now flow.now place.now }
@@ -55,7 +55,7 @@ fn link_after(network: &Network, flow: &Flow, place: &Place) -> Option<u16>
     only_link(followers_in(network, flow, *place))
 }
 
-// Marks the link that the flow needs at that place, if there is one.
+/// Marks the link that the flow needs at that place, if there is one.
 fn mark_place(network: &Network, flow: &Flow, place: &Place, marks: &mut [bool])
     requires flow { IsFlow network.now.nodes flow.now }
     requires size { length marks.old ≡ length network.now.links }
@@ -66,7 +66,7 @@ fn mark_place(network: &Network, flow: &Flow, place: &Place, marks: &mut [bool])
     }
 }
 
-// Marks the links that the flow needs at these places.
+/// Marks the links that the flow needs at these places.
 fn mark_places(network: &Network, flow: &Flow, places: &[Place], marks: &mut [bool])
     requires flow { IsFlow network.now.nodes flow.now }
     requires size { length marks.old ≡ length network.now.links }
@@ -77,8 +77,8 @@ fn mark_places(network: &Network, flow: &Flow, places: &[Place], marks: &mut [bo
     }
 }
 
-// A mark for each link that the flow needs.
-fn needed(
+/// A mark for each link that the flow needs.
+fn needed_links(
     alloc: Global,
     network: &Network,
     flow: &Flow,
@@ -95,7 +95,7 @@ fn needed(
     Ok(marks)
 }
 
-// Adds the flow to the rows of the links that are marked.
+/// Adds the flow to the rows of the links that are marked.
 fn add_flow(marks: &[bool], flow: u16, losses: &mut [Vec<u16>]) -> Result<(), AllocError>
     requires { length losses.old ≡ length marks.now }
     ensures { OnOk result (AreAdded marks.now flow (length marks.now) losses.old losses.new) }
@@ -125,7 +125,7 @@ pub fn losses(
     let mut losses = empty_rows(alloc, usize::from(network.links()))?;
     for number in 0..network.flows() {
         let listed = &places[usize::from(number)];
-        let marks = needed(alloc, network, network.flow(number), listed)?;
+        let marks = needed_links(alloc, network, network.flow(number), listed)?;
         add_flow(&marks, number, &mut losses)?;
     }
     Ok(losses)

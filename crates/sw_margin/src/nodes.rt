@@ -10,7 +10,7 @@ use std::alloc::{AllocError, Global};
 use sw_config::Network;
 use sw_search::VerdictWorkers;
 
-// What waits for what where the node takes nothing while it wants to send.
+/// What waits for what where the node takes nothing while it wants to send.
 pub(crate) fn stall(network: &Network, node: u16) -> (u16, u16)
     requires { node < length network.now.nodes }
     ensures stall { stall network.now node ≡ result ∷ [] }
@@ -20,7 +20,7 @@ pub(crate) fn stall(network: &Network, node: u16) -> (u16, u16)
     (out.partner().number(), out.number())
 }
 
-// What is told of the node of that number.
+/// What is told of the node of that number.
 fn told_of<W: VerdictWorkers>(
     workers: &W,
     alloc: Global,

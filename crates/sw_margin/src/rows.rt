@@ -5,8 +5,8 @@ ghost use Rattle.sw_margin.specs.Waits.{AreWith, IsWithin};
 
 use std::alloc::{AllocError, Global};
 
-// The same rows.
-fn copied(alloc: Global, rows: &[Vec<u16>]) -> Result<Vec<Vec<u16>>, AllocError>
+/// The same rows.
+fn copy(alloc: Global, rows: &[Vec<u16>]) -> Result<Vec<Vec<u16>>, AllocError>
     ensures { IfOk result (λ v. map (λ r. r.items) v.items ≡ map (λ r. r.items) rows.now) }
 {
     let mut copy = Vec::new(alloc);
@@ -16,7 +16,7 @@ fn copied(alloc: Global, rows: &[Vec<u16>]) -> Result<Vec<Vec<u16>>, AllocError>
     Ok(copy)
 }
 
-// Adds one channel to the row of another.
+/// Adds one channel to the row of another.
 fn add_wait(rows: &mut [Vec<u16>], from: u16, to: u16) -> Result<(), AllocError>
     requires { from < length rows.old }
     ensures { OnOk result (AreWith rows.old ((from, to) ∷ []) rows.new) }
@@ -25,7 +25,7 @@ fn add_wait(rows: &mut [Vec<u16>], from: u16, to: u16) -> Result<(), AllocError>
     Ok(())
 }
 
-// Adds to each row the channels for which its channel further waits.
+/// Adds to each row the channels for which its channel further waits.
 fn add_waits(rows: &mut [Vec<u16>], waits: &[(u16, u16)]) -> Result<(), AllocError>
     requires { All (IsWithin (length rows.old)) waits.now }
     ensures { OnOk result (AreWith rows.old waits.now rows.new) }
@@ -47,7 +47,7 @@ pub(crate) fn with_waits(
     ensures with { IfOk result (λ v. AreWith rows.now waits.now v.items) }
     ensures graph { IfOk result (λ v. IsGraph v.items) }
 {
-    let mut more = copied(alloc, rows)?;
+    let mut more = copy(alloc, rows)?;
     add_waits(&mut more, waits)?;
     Ok(more)
 }

@@ -16,7 +16,7 @@ use sw_config::Network;
 use sw_flow::{Place, all_places};
 use sw_search::{VerdictWorkers, dependencies};
 
-// How far the premises of the network bend, by the places of each flow, and for each channel those for which a packet on it may wait.
+/// How far the premises of the network bend, by the places of each flow, and for each channel those for which a packet on it may wait.
 fn told_by_rows<W: VerdictWorkers>(
     workers: &W,
     alloc: Global,

@@ -13,7 +13,7 @@ use sw_config::Network;
 use sw_graph::{Order, order};
 use sw_search::VerdictWorkers;
 
-// Has the relation no cycle?
+/// Has the relation no cycle?
 fn has_no_cycle<W: VerdictWorkers>(
     workers: &W,
     alloc: Global,

@@ -12,7 +12,7 @@ use std::alloc::{AllocError, Global};
 use sw_config::{Flow, Network};
 use sw_flow::{Place, flow_start, followers_in};
 
-// The first of the places that follow.
+/// The first of the places that follow.
 fn first_follower(network: &Network, flow: &Flow, place: &Place) -> Option<Place>
     requires { IsFlow network.now.nodes flow.now }
     ensures { result ≡ slice_get (followers_of network.now flow.now place.now.channel place.now.deleted) 0 }
@@ -20,7 +20,7 @@ fn first_follower(network: &Network, flow: &Flow, place: &Place) -> Option<Place
     followers_in(network, flow, *place).next()
 }
 
-// Adds what waits between the places of the flow's way, and tells the last of these.
+/// Adds what waits between the places of the flow's way, and tells the last of these.
 fn add_waits_back(
     network: &Network,
     flow: &Flow,
@@ -44,8 +44,12 @@ fn add_waits_back(
     Ok(place)
 }
 
-// What waits for what where the flow is answered, the replies going back over the links of its way.
-fn answering(alloc: Global, network: &Network, flow: &Flow) -> Result<Vec<(u16, u16)>, AllocError>
+/// What waits for what where the flow is answered, the replies going back over the links of its way.
+fn waits_of_answers(
+    alloc: Global,
+    network: &Network,
+    flow: &Flow,
+) -> Result<Vec<(u16, u16)>, AllocError>
     requires { IsFlow network.now.nodes flow.now }
     ensures waits { IfOk result (λ v. v.items ≡ answering network.now flow.now) }
     ensures within { IfOk result (λ v. All (IsWithin (length (ends_of network.now))) v.items) }
@@ -57,7 +61,7 @@ fn answering(alloc: Global, network: &Network, flow: &Flow) -> Result<Vec<(u16, 
     Ok(waits)
 }
 
-// May as many commands be unanswered at the node as replies may be owed?
+/// May as many commands be unanswered at the node as replies may be owed?
 fn is_just_enough(network: &Network, node: u16) -> bool
     requires { node < length network.now.nodes }
     ensures { result ≡ is_just_enough network.now node }
@@ -72,7 +76,7 @@ fn is_just_enough(network: &Network, node: u16) -> bool
 }
 
 /// What waits for what where the flow is answered, the replies going back over the links of its way, and ending where it starts.
-pub(crate) fn answered(
+pub(crate) fn waits_where_answered(
     alloc: Global,
     network: &Network,
     flow: &Flow,
@@ -81,7 +85,7 @@ pub(crate) fn answered(
     ensures waits { IfOk result (λ v. v.items ≡ answered network.now flow.now) }
     ensures within { IfOk result (λ v. All (IsWithin (length (ends_of network.now))) v.items) }
 {
-    let mut waits = answering(alloc, network, flow)?;
+    let mut waits = waits_of_answers(alloc, network, flow)?;
     if !is_just_enough(network, flow.from()) {
         return Ok(waits);
     }

@@ -8,7 +8,7 @@ use std::alloc::{AllocError, Global};
 use std::marker::Model;
 use sw_config::{Flow, Network, Reply};
 
-// Does the change take the flow away?
+/// Does the change take the flow away?
 fn loses_flow(change: &Change, number: u16, flow: &Flow) -> bool
     ensures { result ≡ loses_flow change.now number flow.now }
 {
@@ -19,7 +19,7 @@ fn loses_flow(change: &Change, number: u16, flow: &Flow) -> bool
     }
 }
 
-// Does the change leave the flow without its reply?
+/// Does the change leave the flow without its reply?
 fn loses_reply(change: &Change, number: u16, flow: &Flow) -> bool
     ensures { result ≡ loses_reply change.now number flow.now }
 {
@@ -31,7 +31,7 @@ fn loses_reply(change: &Change, number: u16, flow: &Flow) -> bool
     }
 }
 
-// Do the changes leave the flow without its reply, if none takes the flow away?
+/// Do the changes leave the flow without its reply, if none takes the flow away?
 fn loses_reply_alone(changes: &[Change], number: u16, flow: &Flow) -> Option<bool>
     ensures { result ≡ if list_any (λ change. loses_flow change number flow.now) changes.now then None else Some (list_any (λ change. loses_reply change number flow.now) changes.now) }
 {
@@ -45,7 +45,7 @@ fn loses_reply_alone(changes: &[Change], number: u16, flow: &Flow) -> Option<boo
     Some(is_unanswered)
 }
 
-// Where the replies of the flow go, unless they are taken away.
+/// Where the replies of the flow go, unless they are taken away.
 fn kept_reply(alloc: Global, flow: &Flow, is_unanswered: bool) -> Result<Option<Reply>, AllocError>
     ensures { IfOk result (λ r. r ≡ if is_unanswered then None else flow.now.reply) }
 {

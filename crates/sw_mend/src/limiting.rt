@@ -39,13 +39,13 @@ impl Model for Limiting {
     ghost view = { λ l. record { most = l.most; slots = l.slots.items } };
 }
 
-// The greatest number of unanswered commands of a flow that is tried.
+/// The greatest number of unanswered commands of a flow that is tried.
 const MOST: u16 = 8;
 
-// How many replies a target may owe.
+/// How many replies a target may owe.
 const MOST_SLOTS: u32 = 64;
 
-// Are the flow's packets commands that are answered, any number of which may be unanswered?
+/// Are the flow's packets commands that are answered, any number of which may be unanswered?
 fn is_unlimited(network: &Network, flow: u16) -> bool
     requires { flow < length network.now.flows }
     ensures { result ≡ option_map_or (is_unlimited network.now.nodes) (slice_get network.now.flows flow) false }
@@ -53,7 +53,7 @@ fn is_unlimited(network: &Network, flow: u16) -> bool
     network.flow(flow).reply().is_some() && !network.is_limited(flow)
 }
 
-// Is a flow such?
+/// Is a flow such?
 fn has_unlimited(network: &Network) -> bool
     ensures { result ≡ has_unlimited network.now }
 {
@@ -65,7 +65,7 @@ fn has_unlimited(network: &Network) -> bool
     false
 }
 
-// Does the flow end elsewhere, or is it limited?
+/// Does the flow end elsewhere, or is it limited?
 fn is_no_other(network: &Network, flow: u16, node: u16) -> bool
     requires { flow < length (all_flows network.now) }
     ensures { result ≡ option_map_or (λ f. not (f.to == node) || is_limited network.now.nodes f) (slice_get (all_flows network.now) flow) false }
@@ -73,7 +73,7 @@ fn is_no_other(network: &Network, flow: u16, node: u16) -> bool
     network.flow(flow).to() != node || network.is_limited(flow)
 }
 
-// Is each flow that ends at the node limited?
+/// Is each flow that ends at the node limited?
 fn all_limited_at(network: &Network, node: u16) -> bool
     ensures { result ≡ all_limited_at network.now node }
 {
@@ -85,7 +85,7 @@ fn all_limited_at(network: &Network, node: u16) -> bool
     true
 }
 
-// How many replies the node would have to be able to owe to take always what comes, if it has a limit, and now may make others wait.
+/// How many replies the node would have to be able to owe to take always what comes, if it has a limit, and now may make others wait.
 fn slots_at(network: &Network, node: u16) -> Option<u32>
     ensures { result ≡ option_and_then (λ limit. if may_make_wait network.now node then Some (slots_wanted network.now node limit) else None) (limit_at network.now node) }
 {
@@ -100,7 +100,7 @@ fn slots_at(network: &Network, node: u16) -> Option<u32>
     }
 }
 
-// The slots with which each node that has a limit always takes what comes, of those that do not; none where one would need too many.
+/// The slots with which each node that has a limit always takes what comes, of those that do not; none where one would need too many.
 fn more_slots(alloc: Global, network: &Network) -> Result<Option<Vec<TargetSlots>>, AllocError>
     ensures { IfOk result (λ o. AreSlots network.now (option_map (λ v. v.items) o)) }
 {
@@ -121,7 +121,7 @@ fn more_slots(alloc: Global, network: &Network) -> Result<Option<Vec<TargetSlots
     Ok(Some(slots))
 }
 
-// The slots of that node, where these are for it, and else as many as before.
+/// The slots of that node, where these are for it, and else as many as before.
 fn slots_by(more: &TargetSlots, node: u16, before: u8) -> u8
     ensures { result ≡ if node == more.now.node then more.now.slots else before }
 {
@@ -132,7 +132,7 @@ fn slots_by(more: &TargetSlots, node: u16, before: u8) -> u8
     }
 }
 
-// How many replies the target of that node may owe: so many as are named for it, or as many as before.
+/// How many replies the target of that node may owe: so many as are named for it, or as many as before.
 fn slots_after(slots: &[TargetSlots], node: u16, before: u8) -> u8
     ensures { result ≡ slots_after slots.now node before }
 {
@@ -143,7 +143,7 @@ fn slots_after(slots: &[TargetSlots], node: u16, before: u8) -> u8
     count
 }
 
-// What the target of that node answers by, with so many slots where they are named.
+/// What the target of that node answers by, with so many slots where they are named.
 fn target_with(
     slots: &[TargetSlots],
     node: u16,
@@ -156,7 +156,7 @@ fn target_with(
     Some(target)
 }
 
-// Adds the nodes of the network, with so many slots where they are named.
+/// Adds the nodes of the network, with so many slots where they are named.
 fn add_nodes_with(
     alloc: Global,
     network: &Network,
@@ -177,7 +177,7 @@ fn add_nodes_with(
     Ok(())
 }
 
-// Adds the nodes, the switches and the links.
+/// Adds the nodes, the switches and the links.
 fn add_parts_with(
     alloc: Global,
     network: &Network,
@@ -195,7 +195,7 @@ fn add_parts_with(
     add_links(network, builder)
 }
 
-// The network with so many slots where they are named, without flows.
+/// The network with so many slots where they are named, without flows.
 fn with_slots(
     alloc: Global,
     network: &Network,
@@ -220,7 +220,7 @@ fn with_slots(
     }
 }
 
-// Where the replies of a flow go, of which at most that many commands may be unanswered at once; a flow that is limited stays.
+/// Where the replies of a flow go, of which at most that many commands may be unanswered at once; a flow that is limited stays.
 fn limited_reply(
     alloc: Global,
     reply: &Reply,
@@ -238,7 +238,7 @@ fn limited_reply(
     Ok(Reply::new(path, reply.initiator(), outstanding))
 }
 
-// The same, if its packets are commands that are answered.
+/// The same, if its packets are commands that are answered.
 fn limited_replies(
     alloc: Global,
     flow: &Flow,
@@ -268,7 +268,7 @@ pub(crate) fn limited_flow(
     Ok(Flow::new(name, flow.from(), flow.to(), address, flow.left(), reply))
 }
 
-// Adds each flow so.
+/// Adds each flow so.
 fn add_limited_flows(
     alloc: Global,
     network: &Network,
@@ -291,7 +291,7 @@ fn add_limited_flows(
     Ok(())
 }
 
-// The network that the limit and the slots leave.
+/// The network that the limit and the slots leave.
 fn network_limited(
     alloc: Global,
     network: &Network,
@@ -312,7 +312,7 @@ fn network_limited(
     }
 }
 
-// Is the network free that the limit and the slots leave?
+/// Is the network free that the limit and the slots leave?
 fn frees<W: VerdictWorkers>(
     workers: &W,
     alloc: Global,
@@ -330,7 +330,7 @@ fn frees<W: VerdictWorkers>(
     freed
 }
 
-// The slots that the network would need with that limit; none where a target would need too many.
+/// The slots that the network would need with that limit; none where a target would need too many.
 fn slots_with(
     alloc: Global,
     network: &Network,
@@ -345,7 +345,7 @@ fn slots_with(
     slots
 }
 
-// The limit with slots, if both free the network.
+/// The limit with slots, if both free the network.
 fn limit_and_slots<W: VerdictWorkers>(
     workers: &W,
     alloc: Global,

@@ -12,7 +12,7 @@ use sw_config::Network;
 use sw_topo::limits::PORTS;
 use sw_topo::{Chan, PlaceEnd, Port, Topology};
 
-// Has the port no link, and is it none of the switch's own?
+/// Has the port no link, and is it none of the switch's own?
 fn is_free_port(topology: &Topology, switch: u16, port: Port) -> bool
     requires { switch < topology.now.switches }
     ensures { result ≡ is_free_port topology.now.ends switch port }
@@ -20,7 +20,7 @@ fn is_free_port(topology: &Topology, switch: u16, port: Port) -> bool
     port.number() != 0 && !topology.out_of(switch, port).is_some()
 }
 
-// The least port of the switch that has no link.
+/// The least port of the switch that has no link.
 #[tactic(auto, using(sw_topo::proofs::Least::least_found), unfolding(crate::specs::Splits::free_port_below))]
 fn free_port(topology: &Topology, switch: u16, bound: u8) -> Option<Port>
     requires switch { switch < topology.now.switches }
@@ -36,7 +36,7 @@ fn free_port(topology: &Topology, switch: u16, bound: u8) -> Option<Port>
     None
 }
 
-// The link beside that of the node, whose channel out leads to such an end.
+/// The link beside that of the node, whose channel out leads to such an end.
 fn link_beside(network: &Network, node: u16, channel: Chan, end: PlaceEnd) -> Option<TargetLink>
     requires node { node < length network.now.nodes }
     requires channel { channel < 2 * length network.now.links }

@@ -70,7 +70,7 @@ pub(crate) fn add_if<T: Copy>(is_so: bool, thing: T, things: &mut Vec<T>) -> Res
     if is_so { add(thing, things) } else { Ok(()) }
 }
 
-// One port of the entry away, if it is a group.
+/// One port of the entry away, if it is a group.
 fn add_group(
     switch: u16,
     entry: usize,
@@ -93,7 +93,7 @@ fn add_group(
     Ok(())
 }
 
-// One port of one group of these away.
+/// One port of one group of these away.
 fn add_groups_of(switch: u16, routes: &[Route], changes: &mut Vec<Change>) -> Result<(), AllocError>
     ensures { OnOk result (changes.new.items ≡ changes.old.items ++ by_number (ports_away switch) 0 routes.now) }
 {
@@ -103,7 +103,7 @@ fn add_groups_of(switch: u16, routes: &[Route], changes: &mut Vec<Change>) -> Re
     Ok(())
 }
 
-// One of these entries away.
+/// One of these entries away.
 fn add_entries_of(
     switch: u16,
     routes: &[Route],
@@ -117,14 +117,14 @@ fn add_entries_of(
     Ok(())
 }
 
-// Has the flow a reply, and does it go from the one node to the other?
+/// Has the flow a reply, and does it go from the one node to the other?
 fn is_answered_between(flow: &Flow, from: u16, to: u16) -> bool
     ensures { result ≡ is_answered_between from to flow.now }
 {
     flow.reply().is_some() && flow.from() == from && flow.to() == to
 }
 
-// How many of the declared flows below that number do?
+/// How many of the declared flows below that number do?
 fn answered_between(network: &Network, from: u16, to: u16, end: u16) -> u16
     requires { end ≤ length network.now.flows }
     ensures { result ≡ answered_between from to (take end network.now.flows) }
@@ -139,7 +139,7 @@ fn answered_between(network: &Network, from: u16, to: u16, end: u16) -> u16
     count
 }
 
-// Is the flow of that number the first of two or more that have a reply and go from its one node to its other?
+/// Is the flow of that number the first of two or more that have a reply and go from its one node to its other?
 fn is_first_of_several(network: &Network, number: u16, flow: &Flow) -> bool
     requires { number < length network.now.flows }
     ensures { result ≡ is_first_of_several network.now.flows number flow.now }
@@ -150,7 +150,7 @@ fn is_first_of_several(network: &Network, number: u16, flow: &Flow) -> bool
     flow.reply().is_some() && before == 0 && all > 1
 }
 
-// What is taken away of the flow, the node or the switch of that number.
+/// What is taken away of the flow, the node or the switch of that number.
 fn add_at(
     network: &Network,
     kind: Kind,
@@ -182,7 +182,7 @@ fn add_at(
     }
 }
 
-// How many flows, nodes or switches there are to take it from.
+/// How many flows, nodes or switches there are to take it from.
 fn count_of(network: &Network, kind: Kind) -> u16
     ensures { result ≡ count_of network.now kind }
 {
@@ -193,7 +193,7 @@ fn count_of(network: &Network, kind: Kind) -> u16
     }
 }
 
-// All that is taken away of that kind, by numbers.
+/// All that is taken away of that kind, by numbers.
 fn add_all(network: &Network, kind: &Kind, changes: &mut Vec<Change>) -> Result<(), AllocError>
     ensures { OnOk result (changes.new.items ≡ changes.old.items ++ kind_away network.now kind.now) }
 {

@@ -11,7 +11,7 @@ use std::marker::Model;
 use sw_config::{Flow, Network};
 use sw_topo::Port;
 
-// The address by which a flow goes to its target's own node: the last byte that is deleted on its way names the port of the own link.
+/// The address by which a flow goes to its target's own node: the last byte that is deleted on its way names the port of the own link.
 fn moved_address(alloc: Global, link: &TargetLink, flow: &Flow) -> Result<Vec<u8>, AllocError>
     ensures { IfOk result (λ v. v.items ≡ option_map_or (renamed link.now.beside link.now.port flow.now.address) (last_deleted flow.now) flow.now.address) }
 {
@@ -26,7 +26,7 @@ fn moved_address(alloc: Global, link: &TargetLink, flow: &Flow) -> Result<Vec<u8
     Ok(address)
 }
 
-// The flow as it goes after the split.
+/// The flow as it goes after the split.
 fn split_flow(alloc: Global, node: u16, link: &TargetLink, flow: &Flow) -> Result<Flow, AllocError>
     ensures { IfOk result (λ f. f ≡ flow_split node link.now flow.now) }
 {

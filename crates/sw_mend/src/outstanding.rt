@@ -10,7 +10,7 @@ use std::alloc::{AllocError, Global};
 use std::marker::Model;
 use sw_config::Network;
 
-// Adds the flows, of one of which so many commands may be unanswered.
+/// Adds the flows, of one of which so many commands may be unanswered.
 fn add_flows_with(
     alloc: Global,
     network: &Network,

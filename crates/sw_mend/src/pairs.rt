@@ -6,13 +6,13 @@ ghost use Rattle.sw_mend.specs.declared.change.Pair.{Pair};
 
 use crate::change::{Change, Pair};
 use crate::listing::{PARTS_AND_UNITS, add_if, removals};
-use crate::mending::{add_if_free, is_left_free};
 use crate::rebuilt::{network_with, network_with_all};
+use crate::trials::{add_if_free, is_left_free};
 use std::alloc::{AllocError, Global};
 use sw_config::Network;
 use sw_search::VerdictWorkers;
 
-// What can be taken away and does not free the network alone.
+/// What can be taken away and does not free the network alone.
 fn failing_alone<W: VerdictWorkers>(
     workers: &W,
     alloc: Global,
@@ -30,7 +30,7 @@ fn failing_alone<W: VerdictWorkers>(
     Ok(failing)
 }
 
-// Adds those of the pairs of the first change and one of the others that free the network.
+/// Adds those of the pairs of the first change and one of the others that free the network.
 fn add_pairs_with<W: VerdictWorkers>(
     workers: &W,
     alloc: Global,

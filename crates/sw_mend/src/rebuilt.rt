@@ -11,7 +11,7 @@ use std::marker::Model;
 use sw_config::{Network, NetworkBuilder};
 use sw_topo::TopoError;
 
-// Adds the nodes, the switches and the links.
+/// Adds the nodes, the switches and the links.
 fn add_parts(
     alloc: Global,
     network: &Network,

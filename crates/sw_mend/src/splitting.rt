@@ -14,7 +14,7 @@ use sw_config::{Network, NetworkBuilder};
 use sw_topo::limits::MAX_NODES;
 use sw_topo::{PlaceEnd, TopoError};
 
-// Has a node or a switch that name?
+/// Has a node or a switch that name?
 fn is_taken(network: &Network, name: &str) -> bool
     ensures { result ≡ list_any (bytes_eq name.now) (part_names network.now) }
 {
@@ -29,7 +29,7 @@ fn is_taken(network: &Network, name: &str) -> bool
     false
 }
 
-// Adds the nodes, the switches and the links after the split.
+/// Adds the nodes, the switches and the links after the split.
 fn add_split_parts(
     alloc: Global,
     network: &Network,
@@ -57,7 +57,7 @@ fn add_split_parts(
     builder.add_link(near, far, link.near, link.far)
 }
 
-// The network after the split, without flows, if its wiring has no fault.
+/// The network after the split, without flows, if its wiring has no fault.
 fn without_flows(
     alloc: Global,
     network: &Network,
@@ -84,7 +84,7 @@ fn without_flows(
     }
 }
 
-// The same with its flows.
+/// The same with its flows.
 fn with_flows(
     alloc: Global,
     network: &Network,
@@ -104,7 +104,7 @@ fn with_flows(
     }
 }
 
-// The network after the split, whose target's own node has that name, if its wiring has no fault.
+/// The network after the split, whose target's own node has that name, if its wiring has no fault.
 fn split_by_name(
     alloc: Global,
     network: &Network,

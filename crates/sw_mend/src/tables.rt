@@ -10,7 +10,7 @@ use std::marker::Model;
 use sw_route::{Route, RouteError, TableRoutes};
 use sw_topo::{Port, PortSet};
 
-// The ports that the change leaves to the entry of the switch's table, unless it takes the entry out.
+/// The ports that the change leaves to the entry of the switch's table, unless it takes the entry out.
 fn ports_left(change: &Change, switch: u16, entry: usize, set: PortSet) -> Option<PortSet>
     ensures { result ≡ if loses_entry change.now switch entry then None else Some (ports_after change.now switch entry set) }
 {
@@ -40,7 +40,7 @@ fn ports_left(change: &Change, switch: u16, entry: usize, set: PortSet) -> Optio
     }
 }
 
-// Adds what the changes, one after the other, leave of the entry of the switch's table.
+/// Adds what the changes, one after the other, leave of the entry of the switch's table.
 fn add_route(
     table: &mut TableRoutes,
     changes: &[Change],

@@ -22,6 +22,11 @@ use Rattle.sw_machine.specs.Parts.{cell_of}
 use Rattle.sw_machine.specs.Steps.{Accept, Arrive, Begin, Drop, Emit, Fct, FctIn, Forward, Grant, Leads, Reply, Spill, Step, is_begin}
 use Rattle.sw_machine.proofs.DeclaredNetworks.{are_networks}
 use Rattle.sw_machine.specs.Model.{network_of}
+use Rattle.sw_machine.specs.StepValues.{machine_move, machine_step}
+use Rattle.sw_machine.specs.declared.step.Move.{Move}
+use Rattle.sw_machine.specs.declared.step.Move.TheVariants as move
+use Rattle.sw_machine.specs.declared.step.Step.{Step as CodeStep}
+use Rattle.sw_machine.specs.declared.step.Step.TheVariants as code
 use Rattle.sw_net.specs.Net.{NetView}
 use Rattle.sw_net.specs.Possible.{Tells, TellsBeginning, granted_by, kind_at_node, kind_at_port}
 use Rattle.sw_config.specs.Valid.{IsValid}
@@ -150,6 +155,11 @@ module _ {R A : Type 0} (v : NetView R A) where
 no_some : {X : Type 0} {x : X} → Some x ≡ None → ⊥
 no_some is = cc
 
+-- such a step begins nothing
+pub no_beginning : (step : Move) → is_begin (machine_move step) ≡ false
+no_beginning (move.Fct c) = refl
+no_beginning step = refl
+
 module _ {R A : Type 0} (v : NetView R A) (valid : IsValid v.declared) where
   abbrev net : Network
   net = network_of v.declared
@@ -232,3 +242,8 @@ module _ {R A : Type 0} (v : NetView R A) (valid : IsValid v.declared) where
   never_at_switch (Reply m) w at is no_grant = no_reply v valid (Reply m) w at m refl
   never_at_switch (Grant d c) w at is no_grant = absurd (no_some no_grant)
   never_at_switch step w at is no_grant = absurd (no_some is)
+
+  -- at a switch no packet begins
+  pub begins_at_switch : (step : CodeStep) (w : ℕ) → IsAt v.declared (machine_step step) (place.Switch w) → ((m : Move) → step ≡ code.Move m → ⊥) → Tells v (machine_step step) false
+  begins_at_switch (code.Move m) w at other = absurd (other m refl)
+  begins_at_switch (code.Begin flow cargo end) w at other = no_begin v valid (Begin flow cargo.items end) w at flow cargo.items end refl

@@ -56,14 +56,14 @@ impl<'n, R: Routing, A: Arbiter> Net<'n, R, A> {
     }
 
     /// Whether some step that belongs to the link end is possible, other than to begin a packet.
-    pub fn enabled(&self, end: LinkEnd) -> bool
+    pub fn can_step(&self, end: LinkEnd) -> bool
         requires { end < 2 * length self.now.declared.links }
         ensures { CanStep self.now end result }
     {
         match self.place_of(end) {
-            PlaceEnd::Node(n) => node::enabled(self.network, n, self.node(n), &self.wires),
+            PlaceEnd::Node(n) => node::can_step(self.network, n, self.node(n), &self.wires),
             PlaceEnd::Switch(w, _) => {
-                switch::enabled(self.network, w, end, self.switch(w), &self.wires)
+                switch::can_step(self.network, w, end, self.switch(w), &self.wires)
             }
         }
     }
@@ -75,7 +75,7 @@ impl<'n, R: Routing, A: Arbiter> Net<'n, R, A> {
     {
         for number in 0..self.network().channels() {
             let end = LinkEnd::new(number);
-            if self.enabled(end) {
+            if self.can_step(end) {
                 return Some(end);
             }
         }

@@ -4,7 +4,7 @@ ghost use Rattle.sw_machine.specs.StepValues.{machine_step};
 
 use crate::net::Net;
 use sw_arb::Arbiter;
-use sw_machine::Step;
+use sw_machine::{Move, Step};
 use sw_route::Routing;
 use sw_topo::{LinkEnd, PlaceEnd};
 
@@ -34,7 +34,7 @@ impl<'n, R: Routing, A: Arbiter> Net<'n, R, A> {
                     return None;
                 };
                 let back = network.topology().out_of(*w, port).unwrap();
-                Some(Step::Grant(end.sends(), back.partner()))
+                Some(Step::Move(Move::Grant(end.sends(), back.partner())))
             }
         }
     }

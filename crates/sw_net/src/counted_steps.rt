@@ -12,7 +12,7 @@ use std::alloc::{AllocError, Global};
 use std::marker::Model;
 use sw_arb::Arbiter;
 use sw_cell::NetFault;
-use sw_machine::Step;
+use sw_machine::{Move, Step};
 use sw_route::Routing;
 use sw_topo::{LinkEnd, PlaceEnd};
 
@@ -33,7 +33,7 @@ fn owed_by<R: Routing, A: Arbiter>(net: &Net<'_, R, A>, step: &Step) -> usize
     ensures { (s : State) → IsNetState net.now s → result ≡ owed_by net.now.declared s (machine_step step.now) }
 {
     match step {
-        Step::Emit(node) => owed_with_limit(net, *node),
+        Step::Move(Move::Emit(node)) => owed_with_limit(net, *node),
         _ => 0,
     }
 }
@@ -58,7 +58,7 @@ impl Unanswered {
     {
         match step {
             Step::Begin { flow, .. } => self.begin(net.network(), *flow),
-            Step::Emit(node) => {
+            Step::Move(Move::Emit(node)) => {
                 if owed_with_limit(net, *node) < before {
                     self.settle(*node);
                 }

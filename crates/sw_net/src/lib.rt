@@ -3,7 +3,7 @@
 
 mod asked;
 mod asking;
-mod changing;
+mod changed_ends;
 mod choice;
 mod counted_steps;
 mod declared;

@@ -103,7 +103,7 @@ fn empty_rows<A: Arbiter + Drop>(
 }
 
 /// The arbiters by switch and port.
-fn placed<A: Arbiter + Drop>(
+fn place_arbiters<A: Arbiter + Drop>(
     alloc: Global,
     network: &Network,
     arbiters: Vec<A>,
@@ -175,7 +175,7 @@ impl<'n, R: Routing + Drop, A: Arbiter + Drop> Net<'n, R, A> {
         ensures new { IfOk result (IsNewNet network.entry.now) }
         ensures arbiters { IfOk result (λ net. AreByOutput (StandsAt (arbiters_of net.switches)) (ends_of network.entry.now) arbiters.items) }
     {
-        let rows = placed(alloc, network, arbiters)?;
+        let rows = place_arbiters(alloc, network, arbiters)?;
         let switches = new_switches(alloc, network, routes, rows)?;
         let nodes = new_nodes(alloc, network)?;
         let wires = Wires::new(alloc, network.topology().channels() as usize)?;

@@ -99,7 +99,7 @@ pub enum Part {
 }
 
 /// A copy of both slices, the first before the second.
-fn joined(alloc: Global, first: &[NChar], second: &[NChar]) -> Result<Vec<NChar>, AllocError>
+fn join(alloc: Global, first: &[NChar], second: &[NChar]) -> Result<Vec<NChar>, AllocError>
     ensures { IfOk result (λ all. all.items ≡ first.now ++ second.now) }
 {
     [first, second].concat(alloc)
@@ -117,7 +117,7 @@ fn node_part(alloc: Global, node: &NodeCell) -> Result<Part, AllocError>
         taken: node.taken(alloc)?,
         memory: node.memory(alloc)?,
         credit: node.credit(),
-        buffer: joined(alloc, first, second)?,
+        buffer: join(alloc, first, second)?,
         outstanding: node.outstanding(),
     }))
 }
@@ -135,7 +135,7 @@ fn port_part<R: Routing, A: Arbiter>(
         port,
         input: switch.input(port),
         credit: switch.credit(port),
-        buffer: joined(alloc, first, second)?,
+        buffer: join(alloc, first, second)?,
         outstanding: switch.outstanding(port),
     })
 }

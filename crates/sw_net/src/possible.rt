@@ -2,68 +2,57 @@
 ghost use Rattle.std.specs.Prelude.{◌≡◌, ◌<◌, length};
 ghost use Rattle.sw_cell.specs.Places.{IsAt};
 ghost use Rattle.sw_cell.specs.declared.cell.CellId.{CellId};
-ghost use Rattle.sw_machine.specs.Steps.{is_begin};
 ghost use Rattle.sw_machine.specs.Model.{network_of};
-ghost use Rattle.sw_machine.specs.StepValues.{machine_step};
+ghost use Rattle.sw_machine.specs.StepValues.{machine_move, machine_step};
 ghost use Rattle.sw_net.specs.Possible.{granted_by, kind_at_node, kind_at_port};
 
-use crate::changing::receiver;
+use crate::changed_ends::receiver;
 use crate::net::Net;
 use sw_arb::Arbiter;
 use sw_cell::node::NodeStep;
 use sw_cell::switch::PortStep;
 use sw_cell::{CellId, cell_of, node, switch};
-use sw_machine::Step;
+use sw_machine::{Move, Step};
 use sw_route::Routing;
 use sw_topo::{Chan, LinkEnd};
 
-/// Whether the step begins a packet.
-fn begins(step: &Step) -> bool
-    ensures { result ≡ is_begin (machine_step step.now) }
-{
-    matches!(step, Step::Begin { .. })
-}
-
-/// Which step of a node it is, at whichever node. None where it begins a packet, or is never done at
-/// a node.
-fn node_kind(step: &Step) -> Option<NodeStep>
-    ensures { result ≡ kind_at_node (machine_step step.now) }
+/// Which step of a node it is, at whichever node. None where it is never done at a node.
+fn node_kind(step: Move) -> Option<NodeStep>
+    ensures { result ≡ kind_at_node (machine_move step) }
 {
     match step {
-        Step::Fct(_) => Some(NodeStep::Fct),
-        Step::FctIn(_) => Some(NodeStep::FctIn),
-        Step::Arrive(_) => Some(NodeStep::Arrive),
-        Step::Emit(_) => Some(NodeStep::Emit),
-        Step::Accept(_) => Some(NodeStep::Accept),
-        Step::Reply(_) => Some(NodeStep::Reply),
-        Step::Begin { .. } => None,
-        Step::Grant(_, _) | Step::Drop(_) | Step::Forward(_) | Step::Spill(_) => None,
+        Move::Fct(_) => Some(NodeStep::Fct),
+        Move::FctIn(_) => Some(NodeStep::FctIn),
+        Move::Arrive(_) => Some(NodeStep::Arrive),
+        Move::Emit(_) => Some(NodeStep::Emit),
+        Move::Accept(_) => Some(NodeStep::Accept),
+        Move::Reply(_) => Some(NodeStep::Reply),
+        Move::Grant(_, _) | Move::Drop(_) | Move::Forward(_) | Move::Spill(_) => None,
     }
 }
 
 /// Which step of a port it is, and of which link end. None where it is a grant, or is never done at
 /// a switch.
-fn port_kind(step: &Step) -> Option<(LinkEnd, PortStep)>
-    ensures { result ≡ kind_at_port (machine_step step.now) }
+fn port_kind(step: Move) -> Option<(LinkEnd, PortStep)>
+    ensures { result ≡ kind_at_port (machine_move step) }
 {
     match step {
-        Step::Fct(channel) => Some((receiver(*channel), PortStep::Fct)),
-        Step::FctIn(channel) => Some((LinkEnd::new(channel.number()), PortStep::FctIn)),
-        Step::Arrive(channel) => Some((receiver(*channel), PortStep::Arrive)),
-        Step::Drop(channel) => Some((receiver(*channel), PortStep::DropFront)),
-        Step::Forward(channel) => Some((receiver(*channel), PortStep::Forward)),
-        Step::Spill(channel) => Some((receiver(*channel), PortStep::Spill)),
-        Step::Grant(_, _) | Step::Begin { .. } => None,
-        Step::Emit(_) | Step::Accept(_) | Step::Reply(_) => None,
+        Move::Fct(channel) => Some((receiver(channel), PortStep::Fct)),
+        Move::FctIn(channel) => Some((LinkEnd::new(channel.number()), PortStep::FctIn)),
+        Move::Arrive(channel) => Some((receiver(channel), PortStep::Arrive)),
+        Move::Drop(channel) => Some((receiver(channel), PortStep::DropFront)),
+        Move::Forward(channel) => Some((receiver(channel), PortStep::Forward)),
+        Move::Spill(channel) => Some((receiver(channel), PortStep::Spill)),
+        Move::Grant(_, _) | Move::Emit(_) | Move::Accept(_) | Move::Reply(_) => None,
     }
 }
 
 /// The output that the step grants, and the channel whose input gets it. None where it is no grant.
-fn granted(step: &Step) -> Option<(Chan, Chan)>
-    ensures { result ≡ granted_by (machine_step step.now) }
+fn grant_of(step: Move) -> Option<(Chan, Chan)>
+    ensures { result ≡ granted_by (machine_move step) }
 {
     match step {
-        Step::Grant(output, channel) => Some((*output, *channel)),
+        Move::Grant(output, channel) => Some((output, channel)),
         _ => None,
     }
 }
@@ -88,18 +77,19 @@ impl<'n, R: Routing, A: Arbiter> Net<'n, R, A> {
     {
         let network = self.network();
         match cell_of(network, step) {
-            Ok(CellId::Node(n)) => {
-                if begins(step) {
-                    return self.can_begin(n);
-                }
-                match node_kind(step) {
+            Ok(CellId::Node(n)) => match step {
+                Step::Move(step) => match node_kind(*step) {
                     Some(kind) => node::is_possible(network, n, kind, self.node(n), &self.wires),
                     None => false,
-                }
-            }
+                },
+                Step::Begin { .. } => self.can_begin(n),
+            },
             Ok(CellId::Switch(w)) => {
+                let Step::Move(step) = step else {
+                    return false;
+                };
                 let cell = self.switch(w);
-                match port_kind(step) {
+                match port_kind(*step) {
                     Some(asked) => switch::is_possible(
                         network,
                         w,
@@ -108,7 +98,7 @@ impl<'n, R: Routing, A: Arbiter> Net<'n, R, A> {
                         cell,
                         &self.wires,
                     ),
-                    None => match granted(step) {
+                    None => match grant_of(*step) {
                         Some(grant) => switch::can_grant(network, w, grant.0, grant.1, cell),
                         None => false,
                     },

@@ -5,7 +5,7 @@ ghost use Rattle.sw_cell.specs.declared.switch.PortStep.{PortStep};
 ghost use Rattle.sw_flow.specs.Places.{ends_of};
 ghost use Rattle.sw_machine.specs.Network.{AtSwitch};
 ghost use Rattle.sw_machine.specs.Model.{network_of};
-ghost use Rattle.sw_machine.specs.StepValues.{machine_step};
+ghost use Rattle.sw_machine.specs.StepValues.{machine_move, machine_step};
 ghost use Rattle.sw_topo.specs.Checked.{IsIn};
 
 use crate::net::Net;
@@ -15,37 +15,37 @@ use sw_cell::node::NodeStep;
 use sw_cell::switch::PortStep;
 use sw_cell::{NetFault, node, switch};
 use sw_config::Network;
-use sw_machine::Step;
+use sw_machine::{Move, Step};
 use sw_route::Routing;
 use sw_topo::{LinkEnd, PlaceEnd};
 
 /// The step at node `n`.
 #[tactic(auto, unfolding(sw_machine::specs::Model::network_of))]
-fn node_step(network: &Network, n: u16, step: NodeStep) -> Step
+fn node_step(network: &Network, n: u16, step: NodeStep) -> Move
     requires { n < length network.now.nodes }
-    ensures { machine_step result ≡ step_at_node (network_of network.now) n step }
+    ensures { machine_move result ≡ step_at_node (network_of network.now) n step }
 {
     match step {
-        NodeStep::Fct => Step::Fct(network.topology().into(n)),
-        NodeStep::FctIn => Step::FctIn(network.topology().out(n)),
-        NodeStep::Arrive => Step::Arrive(network.topology().into(n)),
-        NodeStep::Emit => Step::Emit(n),
-        NodeStep::Accept => Step::Accept(n),
-        NodeStep::Reply => Step::Reply(n),
+        NodeStep::Fct => Move::Fct(network.topology().into(n)),
+        NodeStep::FctIn => Move::FctIn(network.topology().out(n)),
+        NodeStep::Arrive => Move::Arrive(network.topology().into(n)),
+        NodeStep::Emit => Move::Emit(n),
+        NodeStep::Accept => Move::Accept(n),
+        NodeStep::Reply => Move::Reply(n),
     }
 }
 
 /// The step at the link end of a port.
-fn port_step(end: LinkEnd, step: PortStep) -> Step
-    ensures { machine_step result ≡ step_at_port end step }
+fn port_step(end: LinkEnd, step: PortStep) -> Move
+    ensures { machine_move result ≡ step_at_port end step }
 {
     match step {
-        PortStep::Fct => Step::Fct(end.receives()),
-        PortStep::FctIn => Step::FctIn(end.sends()),
-        PortStep::Arrive => Step::Arrive(end.receives()),
-        PortStep::DropFront => Step::Drop(end.receives()),
-        PortStep::Forward => Step::Forward(end.receives()),
-        PortStep::Spill => Step::Spill(end.receives()),
+        PortStep::Fct => Move::Fct(end.receives()),
+        PortStep::FctIn => Move::FctIn(end.sends()),
+        PortStep::Arrive => Move::Arrive(end.receives()),
+        PortStep::DropFront => Move::Drop(end.receives()),
+        PortStep::Forward => Move::Forward(end.receives()),
+        PortStep::Spill => Move::Spill(end.receives()),
     }
 }
 
@@ -66,13 +66,13 @@ impl<'n, R: Routing, A: Arbiter> Net<'n, R, A> {
         match place {
             PlaceEnd::Node(n) => {
                 match node::first_possible(network, n, self.node(n), &self.wires) {
-                    Some(first) => Some(node_step(network, n, first)),
+                    Some(first) => Some(Step::Move(node_step(network, n, first))),
                     None => None,
                 }
             }
             PlaceEnd::Switch(w, _) => {
                 match switch::first_possible(network, w, end, self.switch(w), &self.wires) {
-                    Some(first) => Some(port_step(end, first)),
+                    Some(first) => Some(Step::Move(port_step(end, first))),
                     None => None,
                 }
             }
@@ -90,7 +90,7 @@ impl<'n, R: Routing, A: Arbiter> Net<'n, R, A> {
     {
         let cell = &mut self.switches[w as usize];
         let channel = switch::arbitrate(self.network, w, end.sends(), cell)?;
-        Some(Step::Grant(end.sends(), channel))
+        Some(Step::Move(Move::Grant(end.sends(), channel)))
     }
 
     /// Makes a step that belongs to the link end, if one is possible other than to begin a packet,

@@ -10,7 +10,7 @@ use std::fmt::Write;
 use sw_char::Packet;
 use sw_config::Network;
 
-// Adds the line of a tally.
+/// Adds the line of a tally.
 fn add_tally(
     alloc: Global,
     name: &str,
@@ -26,7 +26,7 @@ fn add_tally(
     write!(text, "packet {name} {count} {bytes} {end}\n")
 }
 
-// Adds a line for each of the different packets that came out at a node.
+/// Adds a line for each of the different packets that came out at a node.
 fn add_counted(
     alloc: Global,
     name: &str,

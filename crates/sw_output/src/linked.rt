@@ -7,7 +7,7 @@ use sw_config::Network;
 use sw_topo::Port;
 use sw_topo::limits::PORTS;
 
-// Those of the first so many ports that have a link.
+/// Those of the first so many ports that have a link.
 #[tactic(auto, unfolding(crate::specs::LinkedPorts::linked_ports))]
 fn linked_among(
     alloc: Global,

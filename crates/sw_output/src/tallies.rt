@@ -45,7 +45,7 @@ fn order(packet: &Packet, other: &Packet) -> Ordering
         .then(ends)
 }
 
-// The packet came out once more.
+/// The packet came out once more.
 fn add<'a>(tallies: &mut Vec<Tally<'a>>, packet: &'a Packet) -> Result<(), AllocError>
     requires rising { IsRising tallies.old.items }
     requires few { All (λ t. t.count + 1 < 2 ^ 64) tallies.old.items }

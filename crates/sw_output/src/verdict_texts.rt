@@ -36,7 +36,7 @@ pub fn switch_name(network: &Network, switch: u16) -> &str
     }
 }
 
-// What kind of cause it is, and the name of its node or flow.
+/// What kind of cause it is, and the name of its node or flow.
 fn cause_parts<'a>(network: &'a Network, cause: &Cause) -> (&'static str, &'a str)
     ensures { spaced (result.0.now ∷ result.1.now ∷ []) ≡ cause_words network.now (cause_of cause.now) }
 {
@@ -46,7 +46,7 @@ fn cause_parts<'a>(network: &'a Network, cause: &Cause) -> (&'static str, &'a st
     }
 }
 
-// Adds the line of a channel and its cause.
+/// Adds the line of a channel and its cause.
 fn add_cycle_line(
     alloc: Global,
     network: &Network,

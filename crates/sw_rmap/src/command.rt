@@ -67,7 +67,7 @@ impl Command {
             logical,
             instruction,
             key,
-            reply_address: kept(reply_address),
+            reply_address: keep(reply_address),
             initiator,
             transaction,
             address,
@@ -117,7 +117,7 @@ impl Command {
             logical: bytes[0],
             instruction,
             key: bytes[3],
-            reply_address: kept(&bytes[4..4 + path]),
+            reply_address: keep(&bytes[4..4 + path]),
             initiator: back[0],
             transaction: number(&back[1..3]) as u16,
             address: number(&back[3..8]),
@@ -215,7 +215,7 @@ impl Command {
     }
 }
 
-fn kept(reply_address: &[u8]) -> ArrayVec<u8, 12>
+fn keep(reply_address: &[u8]) -> ArrayVec<u8, 12>
     requires { length reply_address.now ≤ 12 }
     ensures { result.items ≡ reply_address.now }
 {

@@ -99,7 +99,7 @@ impl Target {
     {
         let config = self.config;
         let status = status(config, command, body, end);
-        let found = found(config, &self.memory, command, status);
+        let found = reply_data(config, &self.memory, command, status);
         let reply = reply_if_wanted(alloc, command, status, found)?;
         store_if_written(config, &mut self.memory, command, body, status);
         Ok(reply)
@@ -154,7 +154,12 @@ fn offset(config: TargetConfig, command: &Command) -> usize
 }
 
 /// The data of the reply: what a read finds, and nothing else.
-fn found<'a>(config: TargetConfig, memory: &'a [u8], command: &Command, status: Status) -> &'a [u8]
+fn reply_data<'a>(
+    config: TargetConfig,
+    memory: &'a [u8],
+    command: &Command,
+    status: Status,
+) -> &'a [u8]
     requires memory { length memory.now ≡ config.size }
     requires within { is_success status ≡ true → IsInWindow config command.now }
     ensures value { result.now ≡ found_by config command.now status memory.now }

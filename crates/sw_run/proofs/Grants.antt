@@ -20,9 +20,9 @@ use Rattle.sw_machine.specs.Network.{AtSwitch}
 use Rattle.sw_machine.specs.Parts.{link_end_of}
 use Rattle.sw_machine.specs.Steps as steps
 use Rattle.sw_machine.specs.Model.{network_of}
-use Rattle.sw_machine.specs.StepValues.{machine_step}
-use Rattle.sw_machine.specs.declared.step.Step.{Step as CodeStep}
-use Rattle.sw_machine.specs.declared.step.Step.TheVariants as codes
+use Rattle.sw_machine.specs.StepValues.{machine_move}
+use Rattle.sw_machine.specs.declared.step.Move.{Move}
+use Rattle.sw_machine.specs.declared.step.Move.TheVariants as codes
 use Rattle.sw_journal.specs.NetAsking.{IsInput}
 use Rattle.sw_journal.specs.Numbers.{Numbers}
 use Rattle.sw_run.specs.Arbiters.{HasArbiters, PicksAt}
@@ -202,7 +202,7 @@ at_place j k arbiters after (Some p) end turn is advances e at =
 
 -- ---- what a link end does by the step that was chosen for it
 
-pub plain_step : (step : CodeStep) → ((output input : Chan) → step ≡ codes.Grant output input → ⊥) → is_grant (machine_step step) ≡ false
+pub plain_step : (step : Move) → ((output input : Chan) → step ≡ codes.Grant output input → ⊥) → is_grant (machine_move step) ≡ false
 plain_step (codes.Grant output input) other = absurd (other output input refl)
 plain_step step other = refl
 

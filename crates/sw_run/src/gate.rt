@@ -7,11 +7,11 @@ use sw_cell::CellId;
 pub trait Gate {
     /// A worker holds the lock of the cell, and is about to choose what the cell does next: one step
     /// or several, or none where another worker has the journal then.
-    fn deciding(&self, cell: CellId);
+    fn decides(&self, cell: CellId);
 
     /// A step of the cell was committed, and the worker holds no lock. It is called once for each step
     /// of a turn, after all of them.
-    fn committed(&self, cell: CellId);
+    fn commits(&self, cell: CellId);
 }
 
 /// A gate that does nothing.
@@ -19,7 +19,7 @@ pub trait Gate {
 pub struct Open;
 
 impl Gate for Open {
-    fn deciding(&self, _cell: CellId) {}
+    fn decides(&self, _cell: CellId) {}
 
-    fn committed(&self, _cell: CellId) {}
+    fn commits(&self, _cell: CellId) {}
 }

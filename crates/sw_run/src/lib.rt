@@ -4,25 +4,26 @@
 
 mod arbiters;
 mod gate;
+mod grant;
 pub mod laws;
-mod locked_cell;
-mod locked_journal;
+mod locks;
 mod notes;
 mod outcome;
-mod progress;
+mod run_cell;
 mod run_identity;
-mod run_state;
+mod run_journal;
 mod running;
 mod sleepers;
+mod terminal_seconds;
 mod turn;
 mod workers;
 
 pub use gate::{Gate, Open};
 pub use outcome::{Outcome, Stop};
-pub use progress::with_progress;
 pub use running::run;
 pub use sw_cell::CellId;
 pub use sw_config::Network;
 pub use sw_journal::{Cell, Journal, JournalFault, Numbers, Part, PortPart};
 pub use sw_load::laws::listed_are_declared;
 pub use sw_load::{Load, enough_limit};
+pub use terminal_seconds::with_progress;

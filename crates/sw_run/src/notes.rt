@@ -7,7 +7,7 @@ use crate::outcome::Stop;
 use crate::turn::Turn;
 use std::alloc::{AllocError, Global};
 use sw_journal::JournalFault;
-use sw_machine::Step;
+use sw_machine::{Move, Step};
 use sw_topo::LinkEnd;
 
 /// What is noted beside the journal of a run: whether the run goes on, and which outputs are granted.
@@ -75,9 +75,9 @@ impl Notes {
     /// or a character. The output that an input is granted is remembered.
     pub(crate) fn sent_over(&mut self, end: LinkEnd, step: &Step) -> Option<LinkEnd> {
         match step {
-            Step::Fct(_) | Step::Emit(_) => Some(end),
-            Step::Forward(_) => self.outputs.get(end.number() as usize).copied(),
-            Step::Grant(output, input) => {
+            Step::Move(Move::Fct(_) | Move::Emit(_)) => Some(end),
+            Step::Move(Move::Forward(_)) => self.outputs.get(end.number() as usize).copied(),
+            Step::Move(Move::Grant(output, input)) => {
                 if let Some(granted) = self.outputs.get_mut(input.partner().number() as usize) {
                     *granted = LinkEnd::new(output.number());
                 }

@@ -5,11 +5,11 @@ ghost use Rattle.sw_run.specs.Cells.{IsCellOf};
 ghost use Rattle.sw_run.specs.Outcomes.{IsOutcome};
 
 use crate::gate::Gate;
-use crate::locked_journal::LockedJournal;
+use crate::locks::{RunState, Slot, lock_each};
 use crate::notes::Notes;
 use crate::outcome::Outcome;
 use crate::run_identity::RunIdentity;
-use crate::run_state::{RunState, Slot, locked};
+use crate::run_journal::RunJournal;
 use crate::sleepers::Sleepers;
 use crate::workers::{RunTask, start_all};
 use std::alloc::{AllocError, Global};
@@ -26,7 +26,7 @@ fn work_all<'a, W: RunIdentity + Send + Sync, G: Gate + Sync, R: Threads + Wait 
     rt: &R,
     alloc: Global,
     network: &'a Network,
-    journal: &mut LockedJournal<'a, W>,
+    journal: &mut RunJournal<'a, W>,
     slots: Vec<Slot<W>>,
     workers: usize,
     gate: &G,
@@ -68,9 +68,9 @@ fn run_named<'a, W: RunIdentity + Send + Sync, G: Gate + Sync, R: Threads + Wait
     requires some { 0 < workers }
     ensures { IfOk result (IsOutcome W.declared W.load W.limit) }
 {
-    match locked::<W>(alloc, network, cells) {
+    match lock_each::<W>(alloc, network, cells) {
         Ok(slots) => {
-            let mut journal = LockedJournal::<'a, W>::new(network, journal, limit, notes);
+            let mut journal = RunJournal::<'a, W>::new(network, journal, limit, notes);
             work_all(rt, alloc, network, &mut journal, slots, workers, gate);
             journal.outcome(alloc)
         }

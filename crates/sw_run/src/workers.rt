@@ -2,8 +2,8 @@
 ghost use Rattle.std.specs.Prelude.{◌<◌};
 
 use crate::gate::Gate;
+use crate::locks::{Found, RunState};
 use crate::run_identity::RunIdentity;
-use crate::run_state::{Found, RunState};
 use crate::sleepers::SHORTEST;
 use std::alloc::Global;
 use std::sync::Wait;

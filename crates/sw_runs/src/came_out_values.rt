@@ -39,24 +39,24 @@ fn tally_value(alloc: Global, tally: &Tally<'_>) -> Result<Value, AllocError>
     object_of(alloc, members)
 }
 
-// A value for each packet.
+/// A value for each packet.
 fn packet_values(alloc: Global, packets: &[Packet]) -> Result<Vec<Value>, AllocError>
     ensures { IfOk result (λ v. map view v.items ≡ map packet_value packets.now) }
 {
     let mut values = Vec::new(alloc);
     for packet in packets {
-        add_value(&mut values, packet_value(alloc, packet))?;
+        add_value(packet_value(alloc, packet), &mut values)?;
     }
     Ok(values)
 }
 
-// A value for each tally.
+/// A value for each tally.
 fn tally_values(alloc: Global, all: &[Tally<'_>]) -> Result<Vec<Value>, AllocError>
     ensures { IfOk result (λ v. map view v.items ≡ map tally_value all.now) }
 {
     let mut values = Vec::new(alloc);
     for tally in all {
-        add_value(&mut values, tally_value(alloc, tally))?;
+        add_value(tally_value(alloc, tally), &mut values)?;
     }
     Ok(values)
 }
@@ -72,7 +72,7 @@ fn node_value(alloc: Global, name: &str, packets: &[Packet]) -> Result<Value, Al
     object_of(alloc, members)
 }
 
-// A value for each of the different packets.
+/// A value for each of the different packets.
 fn counted_values(alloc: Global, packets: &[Packet]) -> Result<Vec<Value>, AllocError>
     ensures { IfOk result (λ v. map view v.items ≡ map tally_value (tallies packets.now)) }
 {
@@ -105,7 +105,7 @@ pub(crate) fn node_values(
     let mut values = Vec::new(alloc);
     for n in 0..network.nodes() {
         let name = network.node_name(n);
-        add_value(&mut values, node_value(alloc, name, &all[n as usize]))?;
+        add_value(node_value(alloc, name, &all[n as usize]), &mut values)?;
     }
     Ok(values)
 }
@@ -123,8 +123,8 @@ pub(crate) fn counted_node_values(
     for n in 0..network.nodes() {
         let name = network.node_name(n);
         add_value(
-            &mut values,
             counted_node_value(alloc, name, &all[n as usize]),
+            &mut values,
         )?;
     }
     Ok(values)

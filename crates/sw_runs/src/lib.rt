@@ -13,7 +13,7 @@ mod summaries;
 mod witness_finding;
 mod witness_texts;
 
-pub use replay_finding::{ReplayFinding, ReplayReport, replay};
+pub use replay_finding::{ReplayFinding, ReplayReport, RunValues, replay};
 pub use run_finding::{Options, RunFinding, RunReport, RunSchedule, Wants, run, run_recorded};
 pub use sw_run::{Gate, Open};
 pub use witness_finding::{WitnessFinding, witness};

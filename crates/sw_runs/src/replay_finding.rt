@@ -18,7 +18,7 @@ use std::io::{Read, Write};
 use sw_config::Network;
 use sw_engine::{AsLines, CommandEnd, Finding, Form, read_two_files, second_bytes, tell_found};
 use sw_json::laws::faults_are_plain;
-use sw_json::{AsValue, CommandOutcome, SecondFile, file_fault, long_file, schedule_fault_value};
+use sw_json::{CommandOutcome, SecondFile, Values, file_fault, long_file, schedule_fault_value};
 use sw_schedule::{Part, Replayed, Schedule, ScheduleFault, read_steps, replay_with_parts};
 use sw_text::statuses::FAULTY;
 
@@ -91,22 +91,28 @@ fn replayed_outcome(
     Ok(CommandOutcome { result, status })
 }
 
-impl AsValue for ReplayFinding {
+/// How what is found by `replay` and `run` is told as values of JSON.
+#[derive(Clone, Copy)]
+pub struct RunValues;
+
+impl Values<ReplayFinding> for RunValues {
     ghost command = { codes "replay" };
 
-    ghost results_of = { λ path second d found. finding_results path d found };
+    ghost results_of = { λ _ other _ d found. finding_results other d found };
 
-    fn command() -> &'static str {
+    fn command(&self) -> &'static str {
         "replay"
     }
 
     fn outcome(
         &self,
         alloc: Global,
+        _path: &str,
         second: SecondFile<'_>,
         network: &Network,
+        found: &ReplayFinding,
     ) -> Result<CommandOutcome, AllocError> {
-        match self {
+        match found {
             ReplayFinding::TooLong => long_file(alloc, second.path),
             ReplayFinding::WrongLine(number) => {
                 faults_are_plain();
@@ -116,7 +122,7 @@ impl AsValue for ReplayFinding {
         }
     }
 
-    ghost result_has_status = { λ path second d found. finding_results_have_status path d found };
+    ghost result_has_status = { λ _ other _ d found. finding_results_have_status other d found };
 }
 
 /// What is found of a network and a schedule.
@@ -179,11 +185,5 @@ pub fn replay<N: Read, S: Read, F: Form<ReplayFinding>, W: Write>(
         Some(network) => Some(find(alloc, network, text)),
         None => None,
     };
-    let ended = tell_found(form, alloc, &file, text, &found, writer);
-    CommandEnd {
-        ended,
-        file,
-        second,
-        found,
-    }
+    tell_found(alloc, file, second, found, form, writer)
 }

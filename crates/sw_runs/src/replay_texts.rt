@@ -41,7 +41,7 @@ fn stuck_line(stuck: bool) -> &'static str
     if stuck { "stuck yes\n" } else { "stuck no\n" }
 }
 
-// How far the steps were made, and what is true of the state then.
+/// How far the steps were made, and what is true of the state then.
 fn state_lines(alloc: Global, replayed: &Replayed) -> Result<String, AllocError>
     ensures { IfOk result (λ s. string_bytes s ≡ state_lines (report_of replayed.now)) }
 {

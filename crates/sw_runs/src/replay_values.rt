@@ -13,7 +13,7 @@ use sw_config::Network;
 use sw_json::{Member, object_of};
 use sw_schedule::{ReplayEnd, Replayed, StepRefusal};
 
-// What the end tells: whether all steps were made; how many were, or the number of the one that was refused; and why that was, or null.
+/// What the end tells: whether all steps were made; how many were, or the number of the one that was refused; and why that was, or null.
 fn told_end(end: ReplayEnd) -> (&'static str, u32, Member<'static>)
     ensures kind { result.0.now ≡ replay_kind end }
     ensures step { result.1 ≡ replay_step end }

@@ -14,6 +14,7 @@ ghost use Rattle.sw_runs.specs.RunValues.{run_value};
 ghost use Rattle.sw_schedule.specs.Runs.{readable_text};
 ghost use Rattle.sw_text.specs.Ends.{AreReadInOrder};
 
+use crate::replay_finding::RunValues;
 use crate::run_texts::{report_text, stop_status};
 use crate::run_values::run_value;
 use crate::summaries::wanted_summary;
@@ -27,7 +28,7 @@ use sw_engine::{
     AsLines, CommandEnd, Finding, Form, NetworkFile, answer_to_file, read_two_files, second_bytes,
 };
 use sw_graph::OneByOne;
-use sw_json::{AsValue, CommandOutcome, SecondFile, faulty_file, long_file};
+use sw_json::{CommandOutcome, SecondFile, Values, faulty_file, long_file};
 use sw_load::laws::listed_are_declared;
 use sw_load::{Load, read_load};
 use sw_run::{Gate, Outcome, Stop};
@@ -142,29 +143,31 @@ fn faulty_outcome(
     }
 }
 
-impl AsValue for RunFinding {
+impl Values<RunFinding> for RunValues {
     ghost command = { codes "run" };
 
-    ghost results_of = { run_results };
+    ghost results_of = { λ _ other second d found. run_results other second d found };
 
-    fn command() -> &'static str {
+    fn command(&self) -> &'static str {
         "run"
     }
 
     fn outcome(
         &self,
         alloc: Global,
+        _path: &str,
         second: SecondFile<'_>,
         network: &Network,
+        found: &RunFinding,
     ) -> Result<CommandOutcome, AllocError> {
-        match self {
+        match found {
             RunFinding::TooLong => long_file(alloc, second.path),
             RunFinding::Faulty(fault) => faulty_outcome(alloc, second, fault),
             RunFinding::Ran(report) => ran_outcome(alloc, network, report),
         }
     }
 
-    ghost result_has_status = { run_results_have_status };
+    ghost result_has_status = { λ _ other second d found. run_results_have_status other second d found };
 }
 
 /// The schedule of the outcome's steps.
@@ -312,17 +315,17 @@ fn schedule_found(found: &Option<Result<RunFinding, AllocError>>) -> Option<&Run
 
 /// Writes the schedule, if there is one, and then the answer; nothing at all where the schedule is too long.
 fn tell_answer<W: Write, S: Write>(
-    writer: &mut W,
-    schedule: &mut S,
     found: Option<&RunSchedule>,
     answer: &ByteAnswer,
+    writer: &mut W,
+    schedule: &mut S,
 ) -> Ended
     ensures { IsScheduleTold (option_map (λ s. s.now) found.entry) answer.now.text.items answer.now.status (W.contents writer.old) (W.contents writer.new) (S.contents schedule.old) (S.contents schedule.new) result }
 {
     match found {
-        None => tell_bytes(writer, &answer.text, answer.status),
-        Some(RunSchedule::Text(text)) => match write_whole(schedule, text.as_bytes()) {
-            Ok(()) => tell_bytes(writer, &answer.text, answer.status),
+        None => tell_bytes(&answer.text, answer.status, writer),
+        Some(RunSchedule::Text(text)) => match write_whole(text.as_bytes(), schedule) {
+            Ok(()) => tell_bytes(&answer.text, answer.status, writer),
             Err(_) => Ended::WriteFailed,
         },
         Some(RunSchedule::TooLong) => Ended::Status(UNREAD_OR_UNWRITTEN),
@@ -331,11 +334,11 @@ fn tell_answer<W: Write, S: Write>(
 
 /// Tells what was found, the schedule before the answer. Where there is not enough memory for the answer, no schedule is written.
 fn tell_run<F: Form<RunFinding>, W: Write, S: Write>(
-    form: &F,
     alloc: Global,
     file: &NetworkFile,
     second: Option<&[u8]>,
     found: &Option<Result<RunFinding, AllocError>>,
+    form: &F,
     writer: &mut W,
     schedule: &mut S,
 ) -> Ended
@@ -345,8 +348,8 @@ fn tell_run<F: Form<RunFinding>, W: Write, S: Write>(
     if let NetworkFile::Unread = file {
         return Ended::ReadFailed;
     }
-    match answer_to_file(form, alloc, file, second, found) {
-        Ok(answer) => tell_answer(writer, schedule, schedule_found(found), &answer),
+    match answer_to_file(alloc, file, second, found, form) {
+        Ok(answer) => tell_answer(schedule_found(found), &answer, writer, schedule),
         Err(_) => form.tell_memory(writer),
     }
 }
@@ -371,10 +374,10 @@ pub fn run_recorded<
     load: &mut L,
     options: Options,
     wants: Wants,
+    gate: &G,
     form: &F,
     writer: &mut W,
     schedule: &mut S,
-    gate: &G,
 ) -> CommandEnd<RunFinding>
     requires { 0 < options.workers }
     ensures order { AreReadInOrder (N.remaining network.old) (N.remaining network.new) (L.remaining load.old) (L.remaining load.new) }
@@ -389,7 +392,7 @@ pub fn run_recorded<
         Some(network) => Some(find(rt, alloc, network, text, options, wants, gate)),
         None => None,
     };
-    let ended = tell_run(form, alloc, &file, text, &found, writer, schedule);
+    let ended = tell_run(alloc, &file, text, &found, form, writer, schedule);
     CommandEnd {
         ended,
         file,
@@ -412,9 +415,9 @@ pub fn run<
     network: &mut N,
     load: &mut L,
     options: Options,
+    gate: &G,
     form: &F,
     writer: &mut W,
-    gate: &G,
 ) -> CommandEnd<RunFinding>
     requires { 0 < options.workers }
     ensures ended { EndsByTwo F.memory (AnswersToTwoInForm (IsRunFinding options.limit nothing_wanted) (F.tells form.now) (F.faulty form.now) (F.long form.now)) (N.remaining network.old) (N.remaining network.new) (L.remaining load.old) (L.remaining load.new) (W.contents writer.old) (W.contents writer.new) result.ended }
@@ -431,9 +434,9 @@ pub fn run<
         load,
         options,
         wants,
+        gate,
         form,
         writer,
         &mut io::sink(),
-        gate,
     )
 }

@@ -13,7 +13,7 @@ use sw_run::{Outcome, Stop};
 use sw_search::{VerdictWorkers, is_free};
 use sw_summary::{fill_lines, greatest_fills, summary_of};
 
-// Did the run drain, although the network is not free?
+/// Did the run drain, although the network is not free?
 fn shows_nothing<W: VerdictWorkers>(
     workers: &W,
     alloc: Global,
@@ -28,7 +28,7 @@ fn shows_nothing<W: VerdictWorkers>(
     }
 }
 
-// How full the buffers got, a line for each that held something.
+/// How full the buffers got, a line for each that held something.
 fn fills_text(alloc: Global, network: &Network, steps: &[Step]) -> Result<String, AllocError>
     ensures { IfOk result (λ s. AreFillsTold network.now (map machine_step steps.now) (string_bytes s)) }
 {
@@ -38,7 +38,7 @@ fn fills_text(alloc: Global, network: &Network, steps: &[Step]) -> Result<String
     }
 }
 
-// The summary of these steps and of what came out.
+/// The summary of these steps and of what came out.
 fn summary_text(
     alloc: Global,
     network: &Network,
@@ -55,7 +55,7 @@ fn summary_text(
     format!(in alloc; "{summed}{filled}")
 }
 
-// The summary of the outcome.
+/// The summary of the outcome.
 fn summary<W: VerdictWorkers>(
     workers: &W,
     alloc: Global,

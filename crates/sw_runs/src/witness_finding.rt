@@ -69,7 +69,7 @@ impl AsLines for WitnessFinding {
     }
 }
 
-// That the replies of these flows can't happen.
+/// That the replies of these flows can't happen.
 fn unanswered_text(alloc: Global, network: &Network, flows: &[u16]) -> Result<String, AllocError>
     ensures { IfOk result (λ text. string_bytes text ≡ unanswered_line network.now flows.now) }
 {
@@ -77,7 +77,7 @@ fn unanswered_text(alloc: Global, network: &Network, flows: &[u16]) -> Result<St
     format!(in alloc; "no lock-up: the replies of {names} can't happen\n")
 }
 
-// What a search finds, which tells also that the replies of these flows can't happen.
+/// What a search finds, which tells also that the replies of these flows can't happen.
 fn search(
     alloc: Global,
     network: &Network,
@@ -97,7 +97,7 @@ fn search(
     }
 }
 
-// What is found where channels can wait for one another.
+/// What is found where channels can wait for one another.
 fn find_in_tangles<T: VerdictWorkers>(
     workers: &T,
     alloc: Global,
@@ -116,7 +116,7 @@ fn find_in_tangles<T: VerdictWorkers>(
     }
 }
 
-// What is found by why the network can lock up.
+/// What is found by why the network can lock up.
 fn find_by<T: VerdictWorkers>(
     workers: &T,
     alloc: Global,
@@ -142,7 +142,7 @@ fn find_by<T: VerdictWorkers>(
     }
 }
 
-// What is found of a network.
+/// What is found of a network.
 fn find<T: VerdictWorkers>(
     workers: &T,
     alloc: Global,
@@ -180,11 +180,5 @@ pub fn witness<T: VerdictWorkers, R: Read, F: Form<WitnessFinding>, W: Write>(
         Some(network) => Some(find(workers, alloc, network, tries, seed)),
         None => None,
     };
-    let ended = tell_found(form, alloc, &file, None, &found, writer);
-    CommandEnd {
-        ended,
-        file,
-        second: None,
-        found,
-    }
+    tell_found(alloc, file, None, found, form, writer)
 }

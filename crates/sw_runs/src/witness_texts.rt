@@ -15,8 +15,8 @@ pub(crate) fn none_found(alloc: Global, tries: u32) -> Result<String, AllocError
     format!(in alloc; "no lock-up found in {tries} tries\n")
 }
 
-// The schedule behind a line that the replies of these flows can't happen.
-fn noted(
+/// The schedule behind a line that the replies of these flows can't happen.
+fn with_replies_note(
     alloc: Global,
     network: &Network,
     flows: &[u16],
@@ -39,7 +39,7 @@ pub(crate) fn with_note(
     if flows.is_empty() {
         return Ok(schedule);
     }
-    let noted = noted(alloc, network, flows, schedule.as_str())?;
+    let noted = with_replies_note(alloc, network, flows, schedule.as_str())?;
     if locks_up(alloc, network, noted.as_bytes())? {
         Ok(noted)
     } else {

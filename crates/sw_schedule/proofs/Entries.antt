@@ -2,7 +2,7 @@
 use Rattle.std.proofs.Common.{◌≡◌, ℕ, zero, suc, ◌+◌, ◌≤◌, true, ◌&&◌, List, [], ◌∷◌, ◌++◌, replicate, refl, sym, ap, ◌∙◌, inl, inr, arith, eqb-true, ltb-true}
 use Rattle.std.specs.Prelude.{◌==◌, nat_lt, if◌then◌else◌}
 use Rattle.std.specs.Str.{bytes_eq}
-use Rattle.std.proofs.lemmas.Bool.{and_parts, cases_Bool}
+use Rattle.std.proofs.lemmas.Bool.{and_parts, cases_Bool, false≢true}
 use Rattle.std.proofs.lemmas.Slice.Eq.{bytes_eq-Decides}
 use Rattle.sw_char.specs.declared.nchar.End.{End}
 use Rattle.sw_char.specs.declared.nchar.End.TheVariants.{Eop, Eep}
@@ -10,58 +10,31 @@ use Rattle.sw_machine.specs.Steps.{Step, Fct, FctIn, Arrive, Grant, Drop, Forwar
 use Rattle.sw_output.specs.Tallies.{end_rank}
 use Rattle.sw_schedule.specs.Lines.{Repeated}
 use Rattle.sw_schedule.specs.Schedule.{steps_of}
-use Rattle.sw_schedule.specs.Runs.{StepParts, entries_from, entries_of, have_same_parts, is_same, parts_of}
+use Rattle.sw_schedule.specs.Runs.{entries_from, entries_of, is_same}
 
--- ---- steps with the same parts are the same
+-- ---- steps that are told as the same are the same
 
-abbrev end_from : ℕ → End
-end_from number = if number == 0 then Eop else Eep
-
-abbrev step_from : StepParts → Step
-step_from p =
-    if p.kind == 0 then Fct p.first
-    else if p.kind == 1 then FctIn p.first
-    else if p.kind == 2 then Arrive p.first
-    else if p.kind == 3 then Grant p.first p.second
-    else if p.kind == 4 then Drop p.first
-    else if p.kind == 5 then Forward p.first
-    else if p.kind == 6 then Spill p.first
-    else if p.kind == 7 then Begin p.first p.cargo (end_from p.second)
-    else if p.kind == 8 then Emit p.first
-    else if p.kind == 9 then Accept p.first
-    else Reply p.first
-
-end_back : (e : End) → end_from (end_rank e) ≡ e
-end_back Eop = refl
-end_back Eep = refl
-
-back : (s : Step) → step_from (parts_of s) ≡ s
-back (Fct c) = refl
-back (FctIn c) = refl
-back (Arrive c) = refl
-back (Grant o i) = refl
-back (Drop c) = refl
-back (Forward c) = refl
-back (Spill c) = refl
-back (Begin f cargo e) = ap (λ e. Begin f cargo e) (end_back e)
-back (Emit n) = refl
-back (Accept n) = refl
-back (Reply n) = refl
-
-made : (k l f g s t : ℕ) (c e : List ℕ) → k ≡ l → f ≡ g → s ≡ t → c ≡ e
-    → ◌≡◌ {A = StepParts} (record { kind = k; first = f; second = s; cargo = c }) (record { kind = l; first = g; second = t; cargo = e })
-made k l f g s t c e a b d h = rw (a, b, d, h) refl
-
-parts_same : (p q : StepParts) → have_same_parts p q ≡ true → p ≡ q
-parts_same p q h =
-    let a = and_parts ((p.kind == q.kind) && (p.first == q.first) && (p.second == q.second)) (bytes_eq p.cargo q.cargo) h in
-    let b = and_parts ((p.kind == q.kind) && (p.first == q.first)) (p.second == q.second) a.0 in
-    let c = and_parts (p.kind == q.kind) (p.first == q.first) b.0 in
-    made p.kind q.kind p.first q.first p.second q.second p.cargo q.cargo (eqb-true p.kind q.kind c.0) (eqb-true p.first q.first c.1) (eqb-true p.second q.second b.1)
-    ((bytes_eq-Decides p.cargo q.cargo).0 a.1)
+end_same : (e f : End) → (end_rank e == end_rank f) ≡ true → e ≡ f
+end_same Eop Eop h = refl
+end_same Eep Eep h = refl
+end_same e f h = absurd (false≢true h)
 
 steps_same : (s t : Step) → is_same s t ≡ true → s ≡ t
-steps_same s t h = sym (back s) ∙ ap step_from (parts_same (parts_of s) (parts_of t) h) ∙ back t
+steps_same (Fct c) (Fct e) h = ap Fct (eqb-true c e h)
+steps_same (FctIn c) (FctIn e) h = ap FctIn (eqb-true c e h)
+steps_same (Arrive c) (Arrive e) h = ap Arrive (eqb-true c e h)
+steps_same (Grant o c) (Grant p e) h = let both = and_parts (o == p) (c == e) h in ap (λ k. Grant k c) (eqb-true o p both.0) ∙ ap (Grant p) (eqb-true c e both.1)
+steps_same (Drop c) (Drop e) h = ap Drop (eqb-true c e h)
+steps_same (Forward c) (Forward e) h = ap Forward (eqb-true c e h)
+steps_same (Spill c) (Spill e) h = ap Spill (eqb-true c e h)
+steps_same (Begin f c e) (Begin g d l) h =
+    let all = and_parts ((f == g) && (end_rank e == end_rank l)) (bytes_eq c d) h in
+    let first = and_parts (f == g) (end_rank e == end_rank l) all.0 in
+    ap (λ k. Begin k c e) (eqb-true f g first.0) ∙ ap (λ k. Begin g k e) ((bytes_eq-Decides c d).0 all.1) ∙ ap (Begin g d) (end_same e l first.1)
+steps_same (Emit n) (Emit m) h = ap Emit (eqb-true n m h)
+steps_same (Accept n) (Accept m) h = ap Accept (eqb-true n m h)
+steps_same (Reply n) (Reply m) h = ap Reply (eqb-true n m h)
+steps_same s t h = absurd (false≢true h)
 
 -- ---- what the entries are
 

@@ -5,7 +5,6 @@ pub mod Laws
 pub mod Spelling
 pub mod WrittenLines
 pub mod Runs
-pub mod Views
 pub mod TextLaws
 pub mod Reports
 pub mod Replays

@@ -1,5 +1,5 @@
 -- The text that is written of a list of steps, equal neighbours as one line with their count (this project's choice).
-use Rattle.std.specs.Prelude.{ℕ, ◌+◌, ◌==◌, ◌&&◌, nat_le, nat_lt, Bool, List, [], ◌∷◌, Option, Some, None, flat_map, length, if◌then◌else◌}
+use Rattle.std.specs.Prelude.{ℕ, ◌+◌, ◌==◌, ◌&&◌, nat_le, nat_lt, Bool, false, List, [], ◌∷◌, Option, Some, None, flat_map, length, if◌then◌else◌}
 use Rattle.std.specs.Fmt.{decimal}
 use Rattle.std.specs.Str.{bytes_eq}
 use Rattle.sw_config.specs.Entries.{Declaration}
@@ -9,34 +9,20 @@ use Rattle.sw_output.specs.Tallies.{end_rank}
 use Rattle.sw_schedule.specs.Lines.{Repeated}
 use Rattle.sw_schedule.specs.WrittenLines.{step_line}
 
--- what tells steps apart: of which kind a step is, its numbers and its cargo
-pub record StepParts : Type 0 where
-  pub kind : ℕ
-  pub first : ℕ
-  pub second : ℕ
-  pub cargo : List ℕ
-
-abbrev pub plain : ℕ → ℕ → StepParts
-plain kind number = record { kind = kind; first = number; second = 0; cargo = [] }
-
-abbrev pub parts_of : Step → StepParts
-parts_of (Fct c) = plain 0 c
-parts_of (FctIn c) = plain 1 c
-parts_of (Arrive c) = plain 2 c
-parts_of (Grant o i) = record { kind = 3; first = o; second = i; cargo = [] }
-parts_of (Drop c) = plain 4 c
-parts_of (Forward c) = plain 5 c
-parts_of (Spill c) = plain 6 c
-parts_of (Begin flow cargo end) = record { kind = 7; first = flow; second = end_rank end; cargo = cargo }
-parts_of (Emit n) = plain 8 n
-parts_of (Accept n) = plain 9 n
-parts_of (Reply n) = plain 10 n
-
-abbrev pub have_same_parts : StepParts → StepParts → Bool
-have_same_parts p q = (p.kind == q.kind) && (p.first == q.first) && (p.second == q.second) && bytes_eq p.cargo q.cargo
-
+-- the two are the same step
 abbrev pub is_same : Step → Step → Bool
-is_same step other = have_same_parts (parts_of step) (parts_of other)
+is_same (Fct c) (Fct e) = c == e
+is_same (FctIn c) (FctIn e) = c == e
+is_same (Arrive c) (Arrive e) = c == e
+is_same (Grant d c) (Grant f e) = (d == f) && (c == e)
+is_same (Drop c) (Drop e) = c == e
+is_same (Forward c) (Forward e) = c == e
+is_same (Spill c) (Spill e) = c == e
+is_same (Begin flow cargo end) (Begin other more last) = (flow == other) && (end_rank end == end_rank last) && bytes_eq cargo more
+is_same (Emit n) (Emit m) = n == m
+is_same (Accept n) (Accept m) = n == m
+is_same (Reply n) (Reply m) = n == m
+is_same step other = false
 
 -- the entries of these steps, behind a step that was made so often: an entry has its step at most 100,000 times
 abbrev pub entries_from : Step → ℕ → List Step → List Repeated

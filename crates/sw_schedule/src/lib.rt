@@ -15,7 +15,6 @@ mod replayed;
 mod replaying;
 mod schedule;
 mod schedule_entry;
-mod step_parts;
 pub mod text_laws;
 mod writing;
 mod written_line;
@@ -28,7 +27,7 @@ pub use replaying::replay;
 pub use schedule::{MAX_STEPS, Schedule, ScheduleFault, read_steps};
 pub use schedule_entry::ScheduleEntry;
 pub use sw_load::MAX_CARGO;
-pub use sw_machine::Step;
+pub use sw_machine::{Move, Step};
 pub use sw_net::{
     ASKED_BY_FCT, CellId, Input, Net, NetFault, NodePart, Part, PortPart, SwitchRoutes, Unanswered,
     declared_net,

@@ -1,44 +1,45 @@
 //! What a line of a schedule says.
 ghost use Rattle.std.specs.Prelude.{◌≡◌, ◌==◌, ◌∷◌, [], IfOk, option_and_then, option_map};
 ghost use Rattle.std.specs.List.{slice_split};
-ghost use Rattle.sw_schedule.specs.Kept.{plain_step};
+ghost use Rattle.sw_machine.specs.StepValues.{machine_move};
 ghost use Rattle.sw_schedule.specs.Lines.{at_channel, begin_of, channel_of, grant_of, is_skipped, node_of, repeated_of, step_of, words_of};
 
 use crate::cargo::cargo_of;
 use crate::names::{MAX_COUNT, channel_of, flow_of, is_word, node_of};
-use crate::schedule_entry::{BeginStep, Packed, Plain, ScheduleEntry};
+use crate::schedule_entry::{BeginStep, Packed, ScheduleEntry};
 use std::alloc::{AllocError, Global};
 use sw_char::End;
 use sw_config::Network;
+use sw_machine::Move;
 use sw_text::{cut, number};
 
 /// A step at the channel of that number.
-fn at_channel(network: &Network, verb: &[u8], place: &[u8]) -> Option<Plain>
-    ensures { option_map plain_step result ≡ option_and_then (at_channel verb.now) (channel_of network.now place.now) }
+fn at_channel(network: &Network, verb: &[u8], place: &[u8]) -> Option<Move>
+    ensures { option_map machine_move result ≡ option_and_then (at_channel verb.now) (channel_of network.now place.now) }
 {
     let Some(channel) = channel_of(network, place) else {
         return None;
     };
     if is_word(verb, b"fct") {
-        Some(Plain::Fct(channel))
+        Some(Move::Fct(channel))
     } else if is_word(verb, b"fctin") {
-        Some(Plain::FctIn(channel))
+        Some(Move::FctIn(channel))
     } else if is_word(verb, b"arrive") {
-        Some(Plain::Arrive(channel))
+        Some(Move::Arrive(channel))
     } else if is_word(verb, b"drop") {
-        Some(Plain::Drop(channel))
+        Some(Move::Drop(channel))
     } else if is_word(verb, b"forward") {
-        Some(Plain::Forward(channel))
+        Some(Move::Forward(channel))
     } else if is_word(verb, b"spill") {
-        Some(Plain::Spill(channel))
+        Some(Move::Spill(channel))
     } else {
         None
     }
 }
 
 /// The step of two words.
-fn of_place(network: &Network, verb: &[u8], place: &[u8]) -> Option<Plain>
-    ensures { option_map plain_step result ≡ step_of network.now (verb.now ∷ place.now ∷ []) }
+fn of_place(network: &Network, verb: &[u8], place: &[u8]) -> Option<Move>
+    ensures { option_map machine_move result ≡ step_of network.now (verb.now ∷ place.now ∷ []) }
 {
     if let Some(step) = at_channel(network, verb, place) {
         return Some(step);
@@ -47,19 +48,19 @@ fn of_place(network: &Network, verb: &[u8], place: &[u8]) -> Option<Plain>
         return None;
     };
     if is_word(verb, b"emit") {
-        Some(Plain::Emit(node))
+        Some(Move::Emit(node))
     } else if is_word(verb, b"accept") {
-        Some(Plain::Accept(node))
+        Some(Move::Accept(node))
     } else if is_word(verb, b"reply") {
-        Some(Plain::Reply(node))
+        Some(Move::Reply(node))
     } else {
         None
     }
 }
 
 /// The step of three words.
-fn grant_of(network: &Network, verb: &[u8], output: &[u8], input: &[u8]) -> Option<Plain>
-    ensures { option_map plain_step result ≡ grant_of network.now verb.now output.now input.now }
+fn grant_of(network: &Network, verb: &[u8], output: &[u8], input: &[u8]) -> Option<Move>
+    ensures { option_map machine_move result ≡ grant_of network.now verb.now output.now input.now }
 {
     if !is_word(verb, b"grant") {
         return None;
@@ -68,7 +69,7 @@ fn grant_of(network: &Network, verb: &[u8], output: &[u8], input: &[u8]) -> Opti
         return None;
     };
     match channel_of(network, input) {
-        Some(input) => Some(Plain::Grant(output, input)),
+        Some(input) => Some(Move::Grant(output, input)),
         None => None,
     }
 }

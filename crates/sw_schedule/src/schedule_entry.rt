@@ -1,47 +1,13 @@
 //! A step of a schedule, and how many times it is made.
 ghost use Rattle.std.specs.Prelude.{◌≡◌, IfOk, option_map};
-ghost use Rattle.sw_schedule.specs.Kept.{cargo_bytes, plain_step};
-ghost use Rattle.sw_machine.specs.StepValues.{machine_step};
+ghost use Rattle.sw_schedule.specs.Kept.{cargo_bytes};
+ghost use Rattle.sw_machine.specs.StepValues.{machine_move, machine_step};
 
 use crate::cargo::Cargo;
 use std::alloc::{AllocError, Global};
 use std::marker::Model;
 use sw_char::End;
-use sw_machine::Step;
-use sw_topo::Chan;
-
-/// A step without cargo.
-#[derive(Clone, Copy)]
-pub(crate) enum Plain {
-    Fct(Chan),
-    FctIn(Chan),
-    Arrive(Chan),
-    Grant(Chan, Chan),
-    Drop(Chan),
-    Forward(Chan),
-    Spill(Chan),
-    Emit(u16),
-    Accept(u16),
-    Reply(u16),
-}
-
-/// The step itself.
-fn step_of(plain: Plain) -> Step
-    ensures { machine_step result ≡ plain_step plain }
-{
-    match plain {
-        Plain::Fct(channel) => Step::Fct(channel),
-        Plain::FctIn(channel) => Step::FctIn(channel),
-        Plain::Arrive(channel) => Step::Arrive(channel),
-        Plain::Grant(output, input) => Step::Grant(output, input),
-        Plain::Drop(channel) => Step::Drop(channel),
-        Plain::Forward(channel) => Step::Forward(channel),
-        Plain::Spill(channel) => Step::Spill(channel),
-        Plain::Emit(node) => Step::Emit(node),
-        Plain::Accept(node) => Step::Accept(node),
-        Plain::Reply(node) => Step::Reply(node),
-    }
-}
+use sw_machine::{Move, Step};
 
 /// A step that begins a packet, in no more memory than a few times its text.
 #[derive(Drop)]
@@ -54,7 +20,7 @@ pub(crate) struct BeginStep {
 /// How many times a step is made, and the step, in 16 bytes: what has cargo stands elsewhere.
 #[derive(Drop)]
 pub(crate) enum Packed {
-    Plain(u32, Plain),
+    Plain(u32, Move),
     WithCargo(u32, Box<BeginStep>),
 }
 
@@ -75,8 +41,8 @@ impl Model for ScheduleEntry {
 
 impl ScheduleEntry {
     /// The entry of a step without cargo, if there is one.
-    pub(crate) fn plain(count: u32, step: Option<Plain>) -> Option<ScheduleEntry>
-        ensures { result ≡ option_map (λ s. record { count = count; step = plain_step s }) step }
+    pub(crate) fn plain(count: u32, step: Option<Move>) -> Option<ScheduleEntry>
+        ensures { result ≡ option_map (λ s. record { count = count; step = machine_move s }) step }
     {
         match step {
             Some(step) => Some(ScheduleEntry {
@@ -104,7 +70,7 @@ impl ScheduleEntry {
         ensures { IfOk result (λ s. machine_step s ≡ self.now.step) }
     {
         match &self.packed {
-            Packed::Plain(_, plain) => Ok(step_of(*plain)),
+            Packed::Plain(_, step) => Ok(Step::Move(*step)),
             Packed::WithCargo(_, beginning) => Ok(Step::Begin {
                 flow: beginning.flow,
                 cargo: match &beginning.cargo {

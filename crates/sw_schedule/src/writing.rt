@@ -5,7 +5,6 @@ ghost use Rattle.sw_schedule.specs.Runs.{entry_line, is_same, readable_text};
 
 use crate::names::MAX_COUNT;
 use crate::schedule::MAX_STEPS;
-use crate::step_parts::is_same;
 use crate::written_line::add_step;
 use std::alloc::{AllocError, Global};
 use std::fmt::Write;
@@ -34,7 +33,25 @@ pub fn add_entry(
     text.push_str("\n")
 }
 
-// Whether the step is one more of the last one's line, which has it so often.
+/// Whether the two are the same step.
+fn is_same(step: &Step, other: &Step) -> bool
+    ensures { result ≡ is_same (machine_step step.now) (machine_step other.now) }
+{
+    match (step, other) {
+        (Step::Move(step), Step::Move(other)) => step == other,
+        (
+            Step::Begin { flow, cargo, end },
+            Step::Begin {
+                flow: other_flow,
+                cargo: other_cargo,
+                end: other_end,
+            },
+        ) => flow == other_flow && end == other_end && cargo.as_slice() == other_cargo.as_slice(),
+        _ => false,
+    }
+}
+
+/// Whether the step is one more of the last one's line, which has it so often.
 fn is_one_more(count: u32, step: &Step, last: &Step) -> bool
     ensures { result ≡ (nat_lt count 100000 && is_same (machine_step step.now) (machine_step last.now)) }
 {

@@ -14,7 +14,7 @@ use std::alloc::{AllocError, Global};
 use std::fmt::Write;
 use sw_char::End;
 use sw_config::Network;
-use sw_machine::Step;
+use sw_machine::{Move, Step};
 use sw_output::{flow_name, node_name, packet_end_text};
 use sw_topo::Chan;
 
@@ -40,7 +40,7 @@ fn add_node(network: &Network, verb: &str, node: u16, text: &mut String) -> Resu
     write!(text, "{verb} {name}")
 }
 
-// Whether all these bytes are that one.
+/// Whether all these bytes are that one.
 fn are_all(byte: u8, bytes: &[u8]) -> bool
     ensures { result ≡ list_all (λ c. c == byte) bytes.now }
 {
@@ -52,7 +52,7 @@ fn are_all(byte: u8, bytes: &[u8]) -> bool
     true
 }
 
-// All bytes as pairs of hexadecimal digits; where they are alike, one pair and how many they are.
+/// All bytes as pairs of hexadecimal digits; where they are alike, one pair and how many they are.
 fn cargo_text(alloc: Global, cargo: &[u8]) -> Result<String, AllocError>
     ensures { IfOk result (λ s. string_bytes s ≡ cargo_text cargo.now) }
 {
@@ -96,18 +96,18 @@ pub(crate) fn add_step(
     ensures { IfOk result (λ _. string_bytes text.new ≡ string_bytes text.old ++ step_line network.now (machine_step step.now)) }
 {
     match step {
-        Step::Fct(channel) => add_channel("fct", *channel, text),
-        Step::FctIn(channel) => add_channel("fctin", *channel, text),
-        Step::Arrive(channel) => add_channel("arrive", *channel, text),
-        Step::Grant(output, input) => add_grant(*output, *input, text),
-        Step::Drop(channel) => add_channel("drop", *channel, text),
-        Step::Forward(channel) => add_channel("forward", *channel, text),
-        Step::Spill(channel) => add_channel("spill", *channel, text),
+        Step::Move(Move::Fct(channel)) => add_channel("fct", *channel, text),
+        Step::Move(Move::FctIn(channel)) => add_channel("fctin", *channel, text),
+        Step::Move(Move::Arrive(channel)) => add_channel("arrive", *channel, text),
+        Step::Move(Move::Grant(output, input)) => add_grant(*output, *input, text),
+        Step::Move(Move::Drop(channel)) => add_channel("drop", *channel, text),
+        Step::Move(Move::Forward(channel)) => add_channel("forward", *channel, text),
+        Step::Move(Move::Spill(channel)) => add_channel("spill", *channel, text),
         Step::Begin { flow, cargo, end } => {
             add_beginning(alloc, network, *flow, cargo, *end, text)
         }
-        Step::Emit(node) => add_node(network, "emit", *node, text),
-        Step::Accept(node) => add_node(network, "accept", *node, text),
-        Step::Reply(node) => add_node(network, "reply", *node, text),
+        Step::Move(Move::Emit(node)) => add_node(network, "emit", *node, text),
+        Step::Move(Move::Accept(node)) => add_node(network, "accept", *node, text),
+        Step::Move(Move::Reply(node)) => add_node(network, "reply", *node, text),
     }
 }

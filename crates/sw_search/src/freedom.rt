@@ -10,7 +10,7 @@ use crate::workers::VerdictWorkers;
 use std::alloc::{AllocError, Global};
 use sw_config::Network;
 
-// Is it the verdict on a free network?
+/// Is it the verdict on a free network?
 fn says_free(verdict: &Verdict) -> bool
     ensures { result ≡ says_free verdict.now }
 {

@@ -9,17 +9,30 @@ use Rattle.std.specs.Global.{Vec}
 use Rattle.std.specs.Prelude.{None, Option, Some, false, if◌then◌else◌, nat_eq, true}
 use Rattle.std.specs.List.{flat_map, range_with_len}
 use Rattle.sw_char.specs.PacketView.{PacketView}
+use Rattle.sw_char.specs.declared.nchar.End.{End}
 use Rattle.sw_char.specs.declared.nchar.End.TheVariants.{Eop}
 use Rattle.sw_graph.proofs.Ranges.{range_from_more}
 use Rattle.sw_config.specs.Entries.{FlowEntry}
 use Rattle.sw_machine.specs.DeclaredPackets.{left_bytes}
 use Rattle.sw_machine.specs.Begun.{Begun, beginning, beginnings}
-use Rattle.sw_machine.specs.StepValues.{machine_step}
+use Rattle.sw_machine.specs.StepValues.{machine_move, machine_step}
+use Rattle.sw_machine.specs.declared.step.Move.{Move}
+use Rattle.sw_machine.specs.declared.step.Move.TheVariants as move
 use Rattle.sw_machine.specs.declared.step.Step.{Step}
+use Rattle.sw_machine.specs.declared.step.Step.TheVariants as code
 use Rattle.sw_summary.specs.Counts.{all_keys, form_of, forms, items_at, key_of, of_flow, replies_at, replies_of, statuses, statuses_of, with_status}
 use Rattle.sw_summary.specs.Replies.{is_reply, status_of}
 use Rattle.sw_summary.specs.KeyCounts.{Item, KeyCountView, taken, taken_all}
 use Rattle.sw_summary.specs.Texts.{first_status_lines, status_line}
+
+-- a step that is no beginning begins nothing
+pub begins_nothing : (step : Step) → ((flow : ℕ) (cargo : Vec ℕ) (end : End) → step ≡ code.Begin flow cargo end → ⊥) → beginning (machine_step step) ≡ []
+begins_nothing (code.Begin flow cargo end) other = absurd (other flow cargo end refl)
+begins_nothing (code.Move step) other = nothing step
+  where
+    nothing : (step : Move) → beginning (machine_move step) ≡ []
+    nothing (move.Fct c) = refl
+    nothing step = refl
 
 pub beginnings_are : (steps : List Step) → flat_map (λ step. beginning (machine_step step)) steps ≡ beginnings (map machine_step steps)
 beginnings_are steps = sym (flat_map-map beginning machine_step steps)

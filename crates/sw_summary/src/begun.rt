@@ -46,7 +46,7 @@ pub(crate) fn beginnings<'a>(alloc: Global, steps: &'a [Step]) -> Result<Vec<Beg
 }
 
 /// How many packets of the flow the load has.
-pub(crate) fn loaded(flow: u16, load: &Load) -> u64
+pub(crate) fn count_loaded(flow: u16, load: &Load) -> u64
     ensures { result ≡ loaded flow load.now }
 {
     // Names the total, which bounds each entry's count.

@@ -23,8 +23,8 @@ impl<'a> Model for PacketKey<'a> {
     ghost view = { λ k. record { node = k.node; packet = record { bytes = k.bytes.now; end = k.end } } };
 }
 
-// What is counted of the packet at the node: itself, or, of replies, the reply by its first byte.
-fn counted(node: u16, packet: &Packet, replies: bool) -> Option<PacketKey<'_>>
+/// What is counted of the packet at the node: itself, or, of replies, the reply by its first byte.
+fn key_to_count(node: u16, packet: &Packet, replies: bool) -> Option<PacketKey<'_>>
     ensures { result ≡ key_of replies node packet.now }
 {
     let bytes = packet.bytes.as_slice();
@@ -57,7 +57,7 @@ pub(crate) fn keys<'a>(
     let mut all = Vec::new(alloc);
     for n in 0..out.len() {
         for packet in out[n].as_slice() {
-            let Some(key) = counted(n as u16, packet, replies) else {
+            let Some(key) = key_to_count(n as u16, packet, replies) else {
                 continue;
             };
             all.push(key)?;

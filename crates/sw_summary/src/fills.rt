@@ -10,12 +10,12 @@ ghost use Rattle.sw_net.specs.New.{IsNewNet};
 use std::alloc::{AllocError, Global};
 use sw_arb::Policy;
 use sw_config::Network;
-use sw_machine::Step;
+use sw_machine::{Move, Step};
 use sw_net::{Net, NetFault, SwitchRoutes, declared_net};
 use sw_topo::{Chan, LinkEnd};
 
-// How many characters the buffer of the channel holds.
-fn held(net: &Net<'_, SwitchRoutes<'_>, Policy>, channel: Chan) -> u16
+/// How many characters the buffer of the channel holds.
+fn fill_of(net: &Net<'_, SwitchRoutes<'_>, Policy>, channel: Chan) -> u16
     requires { channel < 2 * length net.now.declared.links }
     ensures { IsBuffered net.now channel result }
 {
@@ -26,7 +26,7 @@ fn held(net: &Net<'_, SwitchRoutes<'_>, Policy>, channel: Chan) -> u16
     used.saturating_sub(u16::from(numbers.outstanding))
 }
 
-// Makes the step, if it is possible: whether it is. Where a character has arrived, the fill is greater then, if need be.
+/// Makes the step, if it is possible: whether it is. Where a character has arrived, the fill is greater then, if need be.
 fn make(
     alloc: Global,
     net: &mut Net<'_, SwitchRoutes<'_>, Policy>,
@@ -40,14 +40,14 @@ fn make(
 {
     match net.step(alloc, step) {
         Ok(()) => {
-            let Step::Arrive(channel) = step else {
+            let Step::Move(Move::Arrive(channel)) = step else {
                 return Ok(true);
             };
             let number = usize::from(channel.number());
             if number >= fills.len() {
                 return Ok(true);
             }
-            fills[number] = fills[number].max(held(net, *channel));
+            fills[number] = fills[number].max(fill_of(net, *channel));
             Ok(true)
         }
         Err(NetFault::NotEnabled) => Ok(false),
@@ -56,7 +56,7 @@ fn make(
     }
 }
 
-// The fills of the new network's channels while the steps are made; none where one of them is not possible.
+/// The fills of the new network's channels while the steps are made; none where one of them is not possible.
 fn noted_fills(
     alloc: Global,
     network: &Network,

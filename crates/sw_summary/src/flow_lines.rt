@@ -4,7 +4,7 @@ ghost use Rattle.sw_summary.specs.Counts.{asked_by};
 ghost use Rattle.sw_summary.specs.KeyCounts.{IsRising, found, taken_all};
 ghost use Rattle.sw_summary.specs.Texts.{flow_text_where, flow_texts};
 
-use crate::begun::{Begun, forms, loaded};
+use crate::begun::{Begun, count_loaded, forms};
 use crate::came_out::PacketKey;
 use crate::declared::declared_flow;
 use crate::handling::{Handling, handled_as};
@@ -15,7 +15,7 @@ use sw_char::{End, Packet};
 use sw_config::{Flow, Network};
 use sw_load::Load;
 
-// How many of the replies that these packets of the flow ask for came out.
+/// How many of the replies that these packets of the flow ask for came out.
 fn found_replies(replies: &mut [KeyCount<'_>], flow: &Flow, packets: &[Packet]) -> usize
     requires { IsRising replies.old }
     ensures count { result ≡ found replies.old (asked_by flow.now packets.now flow.now.reply) }
@@ -33,7 +33,7 @@ fn found_replies(replies: &mut [KeyCount<'_>], flow: &Flow, packets: &[Packet]) 
     found_times(replies, &key, handled_as(Handling::Answered, packets))
 }
 
-// Adds the line of the flow, if the load has a packet of it, of which so many came out and so many were answered.
+/// Adds the line of the flow, if the load has a packet of it, of which so many came out and so many were answered.
 fn add_line(
     load: &Load,
     number: u16,
@@ -45,7 +45,7 @@ fn add_line(
 ) -> Result<(), AllocError>
     ensures { IfOk result (λ _. string_bytes text.new ≡ string_bytes text.old ++ flow_text_where load.now begun number delivered answered flow.now) }
 {
-    let of_them = loaded(number, load);
+    let of_them = count_loaded(number, load);
     if of_them == 0 {
         return Ok(());
     }

@@ -56,7 +56,7 @@ impl Handling {
     }
 }
 
-// The same of bytes that are no command.
+/// The same of bytes that are no command.
 fn unread_handling(why: NoCommand) -> Handling
     ensures { result ≡ unread_handling why }
 {
@@ -68,7 +68,7 @@ fn unread_handling(why: NoCommand) -> Handling
     }
 }
 
-// Whether the command is answered.
+/// Whether the command is answered.
 fn read_handling(command: &Command) -> Handling
     ensures { result ≡ read_handling command.now }
 {

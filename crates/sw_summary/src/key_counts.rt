@@ -26,8 +26,8 @@ impl<'a> Model for KeyCount<'a> {
     ghost view = { λ t. record { item = t.key; count = t.count } };
 }
 
-// Where the key stands, or where it has to be put.
-fn place(key_counts: &[KeyCount<'_>], key: &PacketKey<'_>) -> Result<usize, usize>
+/// Where the key stands, or where it has to be put.
+fn index_of(key_counts: &[KeyCount<'_>], key: &PacketKey<'_>) -> Result<usize, usize>
     ensures bound { IsSearchInRange result (length key_counts.now) }
     ensures position { IsBinarySearchResult (λ t. item_order t.item key.now) key_counts.now result }
 {
@@ -42,7 +42,7 @@ fn place(key_counts: &[KeyCount<'_>], key: &PacketKey<'_>) -> Result<usize, usiz
     )
 }
 
-// One fewer of the key, where there is one: how many fewer.
+/// One fewer of the key, where there is one: how many fewer.
 fn take(key_counts: &mut [KeyCount<'_>], key: &PacketKey<'_>) -> usize
     requires { IsRising key_counts.old }
     ensures lowered { result ≡ (if nat_lt 0 (left key.now key_counts.old) then 1 else 0) }
@@ -50,7 +50,7 @@ fn take(key_counts: &mut [KeyCount<'_>], key: &PacketKey<'_>) -> usize
     ensures rising { IsRising key_counts.new }
     ensures few { result ≤ 1 }
 {
-    match place(key_counts, key) {
+    match index_of(key_counts, key) {
         Ok(i) => {
             let key_count = &mut key_counts[i];
             let before = key_count.count;
@@ -73,7 +73,7 @@ pub(crate) fn key_counts<'a>(
     let keys = keys(alloc, out, replies)?;
     let mut all = Vec::new(alloc);
     for key in &keys {
-        match place(&all, key) {
+        match index_of(&all, key) {
             Ok(i) => all[i].count += 1,
             Err(i) => {
                 let key = PacketKey {

@@ -4,7 +4,7 @@ ghost use Rattle.sw_summary.specs.Replies.{head_len, is_reply, status_name};
 
 use sw_rmap::{Instruction, PROTOCOL, crc};
 
-// How many bytes the header of a reply has before its CRC.
+/// How many bytes the header of a reply has before its CRC.
 fn head_len(instruction: Instruction) -> usize
     ensures { result ≡ head_len instruction }
 {

@@ -8,7 +8,7 @@ use std::alloc::{AllocError, Global};
 use std::fmt::Write;
 use sw_char::Packet;
 
-// The statuses of all replies that came out.
+/// The statuses of all replies that came out.
 fn statuses(alloc: Global, out: &[Vec<Packet>]) -> Result<Vec<u8>, AllocError>
     ensures { IfOk result (λ all. all.items ≡ statuses (map (λ packets. packets.items) out.now)) }
 {

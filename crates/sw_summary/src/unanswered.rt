@@ -20,9 +20,9 @@ const REASONS: &[Handling] = &[
     Handling::NoWay,
 ];
 
-// Adds a line for each reason for which nobody answers packets of the flow.
+/// Adds a line for each reason for which nobody answers packets of the flow.
 #[tactic(auto, unfolding(crate::specs::Texts::unanswered_text))]
-fn add_reasons(text: &mut String, name: &str, packets: &[Packet]) -> Result<(), AllocError>
+fn add_reasons(name: &str, packets: &[Packet], text: &mut String) -> Result<(), AllocError>
     ensures { IfOk result (λ _. string_bytes text.new ≡ string_bytes text.old ++ unanswered_text name.now packets.now) }
 {
     for reason in REASONS {
@@ -54,7 +54,7 @@ pub(crate) fn add_unanswered(
             continue;
         }
         let packets = forms(alloc, flow, i, begun)?;
-        add_reasons(text, flow.name(), &packets)?;
+        add_reasons(flow.name(), &packets, text)?;
     }
     Ok(())
 }

@@ -6,25 +6,17 @@ use Rattle.sw_topo.specs.declared.fault.Limit.TheVariants.{Nodes, Switches, Link
 use Rattle.sw_topo.specs.declared.fault.TopoFault.{TopoFault}
 use Rattle.sw_topo.specs.declared.fault.TopoFault.TheVariants.{TooMany, PortTaken, NodeLinks, PortUnlinked}
 use Rattle.sw_text.specs.declared.keys.Section.{Section}
-use Rattle.sw_text.specs.declared.keys.Section.TheVariants.{Document, Node, Target, Switch, Route, Link, Flow, Reply, Packet}
 use Rattle.sw_text.specs.declared.fault.KeyFault.{KeyFault}
 use Rattle.sw_text.specs.declared.fault.KeyFault.TheVariants.{MissingKey, WrongType, OutOfRange, DuplicateName, UnknownName}
 use Rattle.sw_text.specs.declared.fault.TextFault.{TextFault}
 use Rattle.sw_text.specs.declared.fault.TextFault.TheVariants.{Syntax, UnknownKey, Key, Topology, DuplicateRoute, ReplyShape, NotInFlow}
 use Rattle.sw_text.specs.Keys.{key_text}
 use Rattle.sw_text.specs.Lines.{spaced}
+use Rattle.sw_text.specs.Sections.{section_text}
 
 -- where a key stands
 abbrev pub where_text : Section → List ℕ → List ℕ
-where_text Document key = spaced (codes "document" ∷ key ∷ [])
-where_text (Node i) key = spaced (codes "node" ∷ decimal i ∷ key ∷ [])
-where_text (Target i) key = spaced (codes "node" ∷ decimal i ∷ codes "target" ∷ key ∷ [])
-where_text (Switch i) key = spaced (codes "switch" ∷ decimal i ∷ key ∷ [])
-where_text (Route i j) key = spaced (codes "switch" ∷ decimal i ∷ codes "route" ∷ decimal j ∷ key ∷ [])
-where_text (Link i) key = spaced (codes "link" ∷ decimal i ∷ key ∷ [])
-where_text (Flow i) key = spaced (codes "flow" ∷ decimal i ∷ key ∷ [])
-where_text (Reply i) key = spaced (codes "flow" ∷ decimal i ∷ codes "reply" ∷ key ∷ [])
-where_text (Packet i) key = spaced (codes "packet" ∷ decimal i ∷ key ∷ [])
+where_text section key = spaced (section_text section ∷ key ∷ [])
 
 abbrev pub key_fault_text : KeyFault → List ℕ
 key_fault_text MissingKey = codes "F3 MissingKey"

@@ -2,6 +2,8 @@ pub mod Lines
 pub mod Number
 pub mod Reading
 pub mod Keys
+pub mod SectionKeys
+pub mod Sections
 pub mod Gives
 pub mod Table
 pub mod Names

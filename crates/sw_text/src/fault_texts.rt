@@ -1,5 +1,5 @@
 //! How a fault is printed.
-ghost use Rattle.std.specs.Prelude.{◌≡◌, ◌++◌, ◌∷◌, [], IfOk, codes, string_bytes};
+ghost use Rattle.std.specs.Prelude.{◌≡◌, ◌∷◌, [], IfOk, codes, string_bytes};
 ghost use Rattle.std.specs.Fmt.{decimal};
 ghost use Rattle.sw_text.specs.FaultTexts.{fault_text, key_fault_text, limit_text, topology_fault_text, where_text};
 ghost use Rattle.sw_text.specs.Lines.{spaced};
@@ -8,24 +8,11 @@ use crate::{KeyFault, Section, TextFault};
 use std::alloc::{AllocError, Global};
 use sw_topo::{Limit, TopoFault};
 
-// A number behind what it counts.
-fn numbered(alloc: Global, words: &str, number: usize) -> Result<String, AllocError>
+/// A number behind what it counts.
+fn with_number(alloc: Global, words: &str, number: usize) -> Result<String, AllocError>
     ensures { IfOk result (λ s. string_bytes s ≡ spaced (words.now ∷ decimal number ∷ [])) }
 {
     format!(in alloc; "{words} {number}")
-}
-
-// A key of an entry of that list, or of that part of the entry: a space begins a part.
-fn key_in(
-    alloc: Global,
-    list: &str,
-    number: usize,
-    part: &str,
-    key: &str,
-) -> Result<String, AllocError>
-    ensures { IfOk result (λ s. string_bytes s ≡ list.now ++ (codes " " ++ (decimal number ++ (part.now ++ (codes " " ++ key.now))))) }
-{
-    format!(in alloc; "{list} {number}{part} {key}")
 }
 
 /// Where a key stands.
@@ -36,17 +23,8 @@ fn key_in(
 pub fn where_text(alloc: Global, section: Section, key: &str) -> Result<String, AllocError>
     ensures { IfOk result (λ s. string_bytes s ≡ where_text section key.now) }
 {
-    match section {
-        Section::Document => format!(in alloc; "document {key}"),
-        Section::Node(i) => key_in(alloc, "node", i, "", key),
-        Section::Target(i) => key_in(alloc, "node", i, " target", key),
-        Section::Switch(i) => key_in(alloc, "switch", i, "", key),
-        Section::Route(i, j) => format!(in alloc; "switch {i} route {j} {key}"),
-        Section::Link(i) => key_in(alloc, "link", i, "", key),
-        Section::Flow(i) => key_in(alloc, "flow", i, "", key),
-        Section::Reply(i) => key_in(alloc, "flow", i, " reply", key),
-        Section::Packet(i) => key_in(alloc, "packet", i, "", key),
-    }
+    let section = section.text(alloc)?;
+    format!(in alloc; "{section} {key}")
 }
 
 fn key_fault_text(fault: KeyFault) -> &'static str
@@ -71,7 +49,7 @@ fn limit_text(limit: Limit) -> &'static str
     }
 }
 
-// A fault at a key, by its code and name.
+/// A fault at a key, by its code and name.
 fn fault_at(alloc: Global, name: &str, section: Section, key: &str) -> Result<String, AllocError>
     ensures { IfOk result (λ s. string_bytes s ≡ spaced (codes "fault" ∷ name.now ∷ where_text section key.now ∷ [])) }
 {
@@ -88,13 +66,13 @@ fn topology_fault_text(alloc: Global, fault: TopoFault) -> Result<String, AllocE
             format!(in alloc; "fault F8 E4 TooMany {limit}")
         }
         TopoFault::PortTaken(link) => {
-            numbered(alloc, "fault F8 E1 PortTaken link", link as usize)
+            with_number(alloc, "fault F8 E1 PortTaken link", link as usize)
         }
         TopoFault::NodeLinks(node) => {
-            numbered(alloc, "fault F8 E2 NodeLinks node", node as usize)
+            with_number(alloc, "fault F8 E2 NodeLinks node", node as usize)
         }
         TopoFault::PortUnlinked(switch) => {
-            numbered(alloc, "fault F8 E3 PortUnlinked switch", switch as usize)
+            with_number(alloc, "fault F8 E3 PortUnlinked switch", switch as usize)
         }
     }
 }
@@ -119,7 +97,7 @@ pub fn fault_text(alloc: Global, fault: &TextFault) -> Result<String, AllocError
         TextFault::DuplicateRoute(switch, route) => {
             format!(in alloc; "fault F9 DuplicateRoute switch {switch} route {route}")
         }
-        TextFault::ReplyShape(flow) => numbered(alloc, "fault F10 ReplyShape flow", *flow),
-        TextFault::NotInFlow(packet) => numbered(alloc, "fault F11 NotInFlow packet", *packet),
+        TextFault::ReplyShape(flow) => with_number(alloc, "fault F10 ReplyShape flow", *flow),
+        TextFault::NotInFlow(packet) => with_number(alloc, "fault F11 NotInFlow packet", *packet),
     }
 }

@@ -34,14 +34,14 @@ impl From<AllocError> for ReadError {
     }
 }
 
-// A buffer for one read.
+/// A buffer for one read.
 fn buffer_of(alloc: Global) -> Result<Vec<u8>, AllocError>
     ensures { IfOk result (λ v. length v.items ≡ CHUNK) }
 {
     vec![in alloc; 0; CHUNK]
 }
 
-// What a read gave. One that failed is told as that, and as nothing else.
+/// What a read gave. One that failed is told as that, and as nothing else.
 fn count_of(read: io::Result<usize>) -> Result<usize, ReadError>
     ensures given { IfOk result (λ count. read ≡ Ok count) }
     ensures failed { IfErr result (λ error. (error ≡ ReadError.Failed) × IsErr read) }
@@ -52,7 +52,7 @@ fn count_of(read: io::Result<usize>) -> Result<usize, ReadError>
     }
 }
 
-// Adds what one read gives to a text, and says how many bytes these are.
+/// Adds what one read gives to a text, and says how many bytes these are.
 fn read_more<R: Read>(
     reader: &mut R,
     room: &mut [u8],

@@ -37,7 +37,8 @@ fn is_name(text: &str) -> bool
     1 <= text.len() && text.len() <= 32 && is_all_name_bytes(text)
 }
 
-fn is_known(known: &[Key], name: &str) -> bool
+/// Is one of the keys written so?
+pub fn is_known(known: &[Key], name: &str) -> bool
     ensures { result ≡ is_known known.now name.now }
 {
     for key in known {
@@ -98,16 +99,16 @@ impl<'a> TableEntry<'a> {
     /// # Errors
     ///
     /// Something stands at the key, or there is no memory for the key's name.
-    pub fn absent(&self, alloc: Global, key: Key) -> Result<(), FileFault>
+    pub fn refuse_known(&self, alloc: Global, key: Key) -> Result<(), FileFault>
         ensures { Gives (λ x. x) result (absent self.now.section key (table_view self.now.table.now)) }
     {
-        match self.optional(key) {
+        match self.get(key) {
             None => Ok(()),
             Some(_) => self.refuse(alloc, key.text()),
         }
     }
 
-    fn optional(&self, key: Key) -> Option<&'a Value>
+    fn get(&self, key: Key) -> Option<&'a Value>
         ensures { option_map (λ v. view v.now) result ≡ get_member (key_text key) (table_view self.now.table.now) }
     {
         self.table.get(key.text())
@@ -155,7 +156,7 @@ impl<'a> TableEntry<'a> {
     pub fn text(&self, key: Key) -> Result<&'a str, FileFault>
         ensures { Gives (λ s. s.now) result (text_at self.now.section key (table_view self.now.table.now)) }
     {
-        match self.optional(key) {
+        match self.get(key) {
             Some(value) => match value.as_str() {
                 Some(text) => Ok(text),
                 None => Err(self.fault(KeyFault::WrongType, key)),
@@ -172,7 +173,7 @@ impl<'a> TableEntry<'a> {
     pub fn text_or_none(&self, key: Key) -> Result<Option<&'a str>, FileFault>
         ensures { Gives (λ o. option_map (λ s. s.now) o) result (text_or_none self.now.section key (table_view self.now.table.now)) }
     {
-        let Some(value) = self.optional(key) else {
+        let Some(value) = self.get(key) else {
             return Ok(None);
         };
         match value.as_str() {
@@ -190,7 +191,7 @@ impl<'a> TableEntry<'a> {
         ensures gives { Gives (λ n. n) result (number_at self.now.section key low high (table_view self.now.table.now)) }
         ensures within { IfOk result (λ n. (low ≤ n) × (n ≤ high)) }
     {
-        let Some(value) = self.optional(key) else {
+        let Some(value) = self.get(key) else {
             return Err(self.fault(KeyFault::MissingKey, key));
         };
         self.number_value(key, low, high, value)
@@ -207,7 +208,7 @@ impl<'a> TableEntry<'a> {
         ensures gives { Gives (λ n. n) result (number_or self.now.section key low high default (table_view self.now.table.now)) }
         ensures within { IfOk result (λ n. (low ≤ n) × (n ≤ high)) }
     {
-        match self.optional(key) {
+        match self.get(key) {
             Some(value) => self.number_value(key, low, high, value),
             None => Ok(default),
         }
@@ -222,7 +223,7 @@ impl<'a> TableEntry<'a> {
         ensures gives { Gives (λ n. n) result (number_or_none self.now.section key least most (table_view self.now.table.now)) }
         ensures within { IfOk result (λ o. IfSome o (λ n. (least ≤ n) × (n ≤ most))) }
     {
-        match self.optional(key) {
+        match self.get(key) {
             Some(value) => Ok(Some(self.number_value(key, least, most, value)?)),
             None => Ok(None),
         }
@@ -238,7 +239,7 @@ impl<'a> TableEntry<'a> {
         ensures gives { Gives (λ v. v.items) result (numbers_at self.now.section key high (table_view self.now.table.now)) }
         ensures within { IfOk result (λ v. All (λ n. n ≤ high) v.items) }
     {
-        let Some(value) = self.optional(key) else {
+        let Some(value) = self.get(key) else {
             return Err(self.fault(KeyFault::MissingKey, key));
         };
         self.numbers_value(alloc, key, high, value)
@@ -254,7 +255,7 @@ impl<'a> TableEntry<'a> {
         ensures gives { Gives (λ v. v.items) result (numbers_or_none self.now.section key high (table_view self.now.table.now)) }
         ensures within { IfOk result (λ v. All (λ n. n ≤ high) v.items) }
     {
-        match self.optional(key) {
+        match self.get(key) {
             Some(value) => self.numbers_value(alloc, key, high, value),
             None => Ok(Vec::new(alloc)),
         }
@@ -268,7 +269,7 @@ impl<'a> TableEntry<'a> {
     pub fn tables_or_none(&self, alloc: Global, key: Key) -> Result<Vec<&'a Table>, FileFault>
         ensures { Gives (λ v. map (λ t. table_view t.now) v.items) result (tables_or_none self.now.section key (table_view self.now.table.now)) }
     {
-        let Some(value) = self.optional(key) else {
+        let Some(value) = self.get(key) else {
             return Ok(Vec::new(alloc));
         };
         let Some(values) = value.as_array() else {
@@ -292,7 +293,7 @@ impl<'a> TableEntry<'a> {
     pub fn table_or_none(&self, key: Key) -> Result<Option<&'a Table>, FileFault>
         ensures { Gives (λ o. option_map (λ t. table_view t.now) o) result (table_or_none self.now.section key (table_view self.now.table.now)) }
     {
-        let Some(value) = self.optional(key) else {
+        let Some(value) = self.get(key) else {
             return Ok(None);
         };
         match value.as_table() {
@@ -309,7 +310,7 @@ impl<'a> TableEntry<'a> {
     pub fn flag_or_false(&self, key: Key) -> Result<bool, FileFault>
         ensures { Gives (λ b. b) result (flag_or_false self.now.section key (table_view self.now.table.now)) }
     {
-        let Some(value) = self.optional(key) else {
+        let Some(value) = self.get(key) else {
             return Ok(false);
         };
         match value.as_bool() {

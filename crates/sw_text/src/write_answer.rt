@@ -35,45 +35,45 @@ impl Ended {
 }
 
 /// Writes an answer of these bytes.
-pub fn tell_bytes<W: Write>(writer: &mut W, text: &[u8], status: u8) -> Ended
+pub fn tell_bytes<W: Write>(text: &[u8], status: u8, writer: &mut W) -> Ended
     ensures { IsTold (W.contents writer.old) (W.contents writer.new) text.now status result }
 {
-    match write_whole(writer, text) {
+    match write_whole(text, writer) {
         Ok(()) => Ended::Status(status),
         Err(_) => Ended::WriteFailed,
     }
 }
 
 /// Writes an answer.
-pub fn tell<W: Write>(writer: &mut W, text: &str, status: u8) -> Ended
+pub fn tell<W: Write>(text: &str, status: u8, writer: &mut W) -> Ended
     ensures { IsTold (W.contents writer.old) (W.contents writer.new) text.now status result }
 {
-    tell_bytes(writer, text.as_bytes(), status)
+    tell_bytes(text.as_bytes(), status, writer)
 }
 
 /// Writes that memory was wanted.
 pub fn tell_memory<W: Write>(writer: &mut W) -> Ended
     ensures { IsMemoryTold (W.contents writer.old) (W.contents writer.new) result }
 {
-    tell(writer, "fault memory\n", NO_ROOM)
+    tell("fault memory\n", NO_ROOM, writer)
 }
 
 /// Writes an answer, or that memory was wanted.
-pub fn tell_answer<W: Write>(writer: &mut W, answer: Result<ByteAnswer, AllocError>) -> Ended
+pub fn tell_answer<W: Write>(answer: Result<ByteAnswer, AllocError>, writer: &mut W) -> Ended
     ensures { IsAnswerTold answer (W.contents writer.old) (W.contents writer.new) result }
 {
     match answer {
-        Ok(answer) => tell_bytes(writer, &answer.text, answer.status),
+        Ok(answer) => tell_bytes(&answer.text, answer.status, writer),
         Err(_) => tell_memory(writer),
     }
 }
 
 /// Tells why a text was not read: of a read that failed nothing is written.
-pub fn tell_unread<W: Write>(writer: &mut W, error: ReadError) -> Ended
+pub fn tell_unread<W: Write>(error: ReadError, writer: &mut W) -> Ended
     ensures { IsUnreadTold error (W.contents writer.old) (W.contents writer.new) result }
 {
     match error {
-        ReadError::TooLong => tell(writer, "fault A1 TooLong\n", FAULTY),
+        ReadError::TooLong => tell("fault A1 TooLong\n", FAULTY, writer),
         ReadError::Memory => tell_memory(writer),
         ReadError::Failed => Ended::ReadFailed,
     }

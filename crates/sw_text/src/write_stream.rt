@@ -16,7 +16,7 @@ pub struct WriteError;
 ///
 /// A write fails, or takes no byte of a rest that isn't empty. It isn't tried again: what is
 /// written then is a beginning of the text, and not all of it.
-pub fn write_whole<W: Write>(writer: &mut W, text: &[u8]) -> Result<(), WriteError>
+pub fn write_whole<W: Write>(text: &[u8], writer: &mut W) -> Result<(), WriteError>
     ensures whole { OnOk result (Appends (W.contents writer.old) (W.contents writer.new) text.now) }
     ensures beginning { OnErr result ((count : ℕ) × (count < length text.now) × Appends (W.contents writer.old) (W.contents writer.new) (take count text.now)) }
 {

@@ -32,7 +32,7 @@ fn is_below(count: usize, limit: Option<u16>) -> bool {
 
 /// The transaction identifier of a packet that came out where the flow of its command begins, if it is a reply (ECSS-E-ST-50-52C, the
 /// fields of a reply): behind the initiator's address.
-fn replied(packet: &Packet) -> Option<u16> {
+fn transaction_of_reply(packet: &Packet) -> Option<u16> {
     let [_, protocol, instruction, _, _, high, low, ..] = packet.bytes.as_slice() else {
         return None;
     };
@@ -46,7 +46,9 @@ impl Command {
     /// Is one of the packets the reply to it?
     fn is_replied_by(self, packets: &[Packet]) -> bool {
         self.identifier.is_some()
-            && packets.iter().any(|packet: &Packet| -> bool { replied(packet) == self.identifier })
+            && packets.iter().any(|packet: &Packet| -> bool {
+                transaction_of_reply(packet) == self.identifier
+            })
     }
 }
 

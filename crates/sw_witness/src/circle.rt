@@ -71,7 +71,7 @@ fn next_leg(
 
 /// Walks from the channel on, until it comes to a channel a second time, and gives the legs from there on: a circle. None where the walk has
 /// come to an end before.
-fn walked(
+fn walk(
     alloc: Global,
     network: &Network,
     random: &mut Random,
@@ -132,7 +132,7 @@ pub(crate) fn any_circle(
     ways: &Ways,
     start: Chan,
 ) -> Result<Vec<Leg>, AllocError> {
-    match walked(alloc, network, random, ways, start)? {
+    match walk(alloc, network, random, ways, start)? {
         Some(legs) => from_a_first(alloc, &legs),
         None => Ok(Vec::new(alloc)),
     }

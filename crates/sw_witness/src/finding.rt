@@ -12,7 +12,7 @@ use sw_search::Tangle;
 
 /// What the try of that number makes wait: where commands are limited tries take other circles too, since the shortest cycle may want more
 /// commands than an initiator leaves unanswered.
-fn along(turn: u32, is_limited: bool) -> Along {
+fn wait_of_try(turn: u32, is_limited: bool) -> Along {
     if !is_limited {
         return Along::Cycle;
     }
@@ -48,7 +48,7 @@ pub fn find(
             network,
             tangles,
             &mut random,
-            along(turn, is_limited),
+            wait_of_try(turn, is_limited),
         )?
         else {
             continue;

@@ -28,7 +28,7 @@ fn any_ready(random: &mut Random, tasks: &[Task]) -> Option<usize> {
 }
 
 /// The tasks in an order in which they can be done; none where there is no such order.
-pub(crate) fn ordered(
+pub(crate) fn order(
     alloc: Global,
     random: &mut Random,
     tasks: Vec<Task>,

@@ -223,7 +223,7 @@ fn is_of_reply(network: &Network, leg: &Leg) -> bool {
 }
 
 /// The leg behind that of this index, in the circle.
-fn behind(legs: &[Leg], index: usize) -> Option<&Leg> {
+fn leg_behind(legs: &[Leg], index: usize) -> Option<&Leg> {
     match legs.get(index.saturating_add(1)) {
         Some(leg) => Some(leg),
         None => legs.first(),
@@ -247,13 +247,13 @@ pub(crate) fn planned_tasks(
     };
     let mut before = legs.last();
     for (index, leg) in legs.iter().enumerate() {
-        if let (Some(last), Some(next)) = (before, behind(legs, index)) {
+        if let (Some(last), Some(next)) = (before, leg_behind(legs, index)) {
             plan.add_packet(alloc, random, [last, leg, next])?;
         }
         before = Some(leg);
     }
     for (index, leg) in legs.iter().enumerate() {
-        if let Some(next) = behind(legs, index) {
+        if let Some(next) = leg_behind(legs, index) {
             plan.add_commands(alloc, random, leg, next)?;
         }
     }

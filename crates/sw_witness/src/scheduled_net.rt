@@ -8,7 +8,7 @@ use sw_arb::Policy;
 use sw_char::End;
 use sw_config::Network;
 use sw_flow::Place;
-use sw_machine::Step;
+use sw_machine::{Move, Step};
 use sw_schedule::{MAX_STEPS, Net, SwitchRoutes, Unanswered, add_entry, declared_net, make_step};
 use sw_topo::LinkEnd;
 use sw_topo::limits::MAX_CHANNELS;
@@ -32,7 +32,7 @@ pub(crate) struct ScheduledNet<'n> {
 }
 
 /// How many bytes of the flow's address are left at its end.
-fn left(network: &Network, flow: u16) -> usize {
+fn bytes_left(network: &Network, flow: u16) -> usize {
     if flow >= network.flows() {
         return 0;
     }
@@ -55,7 +55,7 @@ impl<'n> ScheduledNet<'n> {
     }
 
     /// Makes the step as often as it is possible and the schedule may have one more, at most so many times.
-    pub(crate) fn repeat(&mut self, alloc: Global, step: Step, most: u32) {
+    fn make(&mut self, alloc: Global, step: Step, most: u32) {
         for _ in 0..most {
             if self.failed || self.steps >= MAX_STEPS {
                 break;
@@ -76,6 +76,11 @@ impl<'n> ScheduledNet<'n> {
                 Err(AllocError) => self.failed = true,
             }
         }
+    }
+
+    /// The same of a step that begins no packet.
+    pub(crate) fn repeat(&mut self, alloc: Global, step: Move, most: u32) {
+        self.make(alloc, Step::Move(step), most);
     }
 
     /// Looks at the replies that came out at the node.
@@ -112,13 +117,13 @@ impl<'n> ScheduledNet<'n> {
             None
         };
         let (cargo, chosen) = load.cargo(alloc, network, identifier)?;
-        let count = left(network, flow).saturating_add(cargo.len());
+        let count = bytes_left(network, flow).saturating_add(cargo.len());
         let step = Step::Begin {
             flow,
             cargo,
             end: End::Eop,
         };
-        self.repeat(alloc, step, 1);
+        self.make(alloc, step, 1);
         if self.moved {
             self.awaited.add(network, flow, chosen)?;
         }
@@ -144,16 +149,16 @@ impl<'n> ScheduledNet<'n> {
         let mut before = None;
         for place in way {
             let channel = place.channel;
-            self.repeat(alloc, Step::Fct(channel), 8);
-            self.repeat(alloc, Step::FctIn(channel), 8);
+            self.repeat(alloc, Move::Fct(channel), 8);
+            self.repeat(alloc, Move::FctIn(channel), 8);
             match before {
-                None => self.repeat(alloc, Step::Emit(node), 64),
+                None => self.repeat(alloc, Move::Emit(node), 64),
                 Some(input) => {
-                    self.repeat(alloc, Step::Grant(channel, input), 1);
-                    self.repeat(alloc, Step::Forward(input), 64);
+                    self.repeat(alloc, Move::Grant(channel, input), 1);
+                    self.repeat(alloc, Move::Forward(input), 64);
                 }
             }
-            self.repeat(alloc, Step::Arrive(channel), 64);
+            self.repeat(alloc, Move::Arrive(channel), 64);
             before = Some(channel);
         }
     }
@@ -175,8 +180,8 @@ impl<'n> ScheduledNet<'n> {
             }
             if number < self.net.network().channels() {
                 match self.net.possible_at(LinkEnd::new(number)) {
-                    Some(Step::Reply(_)) if !replies_leave => {}
-                    Some(step) => self.repeat(alloc, step, 1),
+                    Some(Step::Move(Move::Reply(_))) if !replies_leave => {}
+                    Some(step) => self.make(alloc, step, 1),
                     None => {}
                 }
             }

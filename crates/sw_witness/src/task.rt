@@ -42,8 +42,8 @@ fn meet(one: &[Place], other: &[Place]) -> bool {
 }
 
 impl Task {
-    // The channels that are taken behind it.
-    fn held(&self) -> &[Place] {
+    /// The channels that are taken behind it.
+    fn channels_held(&self) -> &[Place] {
         match self.way.get(self.passed..) {
             Some(held) => held,
             None => &[],
@@ -66,7 +66,7 @@ impl Task {
         sent > taken
     }
 
-    // Does the node begin a packet of its own?
+    /// Does the node begin a packet of its own?
     fn begins(&self) -> bool {
         match self.action {
             Action::Park | Action::Send => true,
@@ -74,24 +74,24 @@ impl Task {
         }
     }
 
-    // Does it go over a channel that the other holds?
+    /// Does it go over a channel that the other holds?
     fn goes_over_held(&self, other: &Task) -> bool {
-        self.action != Action::Take && meet(&self.way, other.held())
+        self.action != Action::Take && meet(&self.way, other.channels_held())
     }
 
-    // Is this to be done before the other, a command of which is sent, since the replies leave in that order?
+    /// Is this to be done before the other, a command of which is sent, since the replies leave in that order?
     fn is_before_send(&self, other: &Task) -> bool {
         self.is_first && self.target == other.target
     }
 
-    // Is this to be done before the other, by which a target comes to owe a reply: is it that command, or a packet that the target begins,
-    // which none does that owes a reply?
+    /// Is this to be done before the other, by which a target comes to owe a reply: is it that command, or a packet that the target begins,
+    /// which none does that owes a reply?
     fn is_before_take(&self, other: &Task) -> bool {
         self.action == Action::Send && self.load.flow == other.load.flow
             || self.begins() && self.node == other.target
     }
 
-    // Is this to be done before the other, a reply: does its target take a command by this?
+    /// Is this to be done before the other, a reply: does its target take a command by this?
     fn is_before_answer(&self, other: &Task) -> bool {
         self.action == Action::Take && self.target == other.node
     }

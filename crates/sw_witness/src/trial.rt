@@ -4,7 +4,7 @@ use crate::circle::any_circle;
 use crate::leg::Leg;
 use crate::load::Load;
 use crate::notes::note_leg;
-use crate::order::ordered;
+use crate::order::order;
 use crate::placing::{Placing, plan};
 use crate::plan::planned_tasks;
 use crate::random::Random;
@@ -13,7 +13,7 @@ use crate::task::{Action, Task};
 use crate::ways::Ways;
 use std::alloc::{AllocError, Global};
 use sw_config::Network;
-use sw_machine::Step;
+use sw_machine::Move;
 use sw_schedule::MAX_STEPS;
 use sw_search::Tangle;
 
@@ -46,8 +46,8 @@ impl ScheduledNet<'_> {
                 self.moved = false;
                 self.advance(alloc, placing.source, &placing.there);
                 if !placing.back.is_empty() {
-                    self.repeat(alloc, Step::Accept(placing.target), 64);
-                    self.repeat(alloc, Step::Reply(placing.target), 1);
+                    self.repeat(alloc, Move::Accept(placing.target), 64);
+                    self.repeat(alloc, Move::Reply(placing.target), 1);
                     self.advance(alloc, placing.target, &placing.back);
                 }
                 if !self.moved {
@@ -105,7 +105,7 @@ impl ScheduledNet<'_> {
             self.moved = false;
             self.advance(alloc, task.node, &task.way);
             let before = self.steps;
-            self.repeat(alloc, Step::Accept(task.target), left);
+            self.repeat(alloc, Move::Accept(task.target), left);
             left = left.saturating_sub(self.steps.saturating_sub(before));
             if !self.moved {
                 break;
@@ -128,7 +128,7 @@ impl ScheduledNet<'_> {
             Action::Send => self.begin_and_bring(alloc, task, !task.meets_another(before)),
             Action::Take => self.bring(alloc, task, MAX_STEPS),
             Action::Answer => {
-                self.repeat(alloc, Step::Reply(task.node), 1);
+                self.repeat(alloc, Move::Reply(task.node), 1);
                 self.bring(alloc, task, 0);
             }
         }
@@ -165,7 +165,7 @@ impl ScheduledNet<'_> {
             let Some(planned) = planned_tasks(alloc, network, random, &ways, &legs)? else {
                 continue;
             };
-            let Some(tasks) = ordered(alloc, random, planned)? else {
+            let Some(tasks) = order(alloc, random, planned)? else {
                 continue;
             };
             self.note_legs(alloc, network, &legs)?;

@@ -8,7 +8,7 @@ use sw_config::{Flow, Network};
 use sw_machine::left_bytes;
 use sw_rmap::{Instruction, PROTOCOL};
 
-// Is the protocol identifier left, and another than RMAP's?
+/// Is the protocol identifier left, and another than RMAP's?
 fn has_other_protocol(left: &[u8]) -> bool
     ensures { result ≡ has_other_protocol left.now }
 {
@@ -18,14 +18,14 @@ fn has_other_protocol(left: &[u8]) -> bool
     }
 }
 
-// Is the instruction one of a command that wants a reply?
+/// Is the instruction one of a command that wants a reply?
 fn is_of_answered(instruction: Instruction) -> bool
     ensures { result ≡ is_of_answered instruction }
 {
     instruction.is_command() && instruction.wants_reply()
 }
 
-// Is the instruction left, and none of a command that is answered by this path?
+/// Is the instruction left, and none of a command that is answered by this path?
 fn has_other_instruction(left: &[u8], path: &[u8]) -> bool
     ensures { result ≡ has_other_instruction left.now path.now }
 {
@@ -38,7 +38,7 @@ fn has_other_instruction(left: &[u8], path: &[u8]) -> bool
     }
 }
 
-// Has the flow replies that no packet of it can ask for?
+/// Has the flow replies that no packet of it can ask for?
 fn can_not_be_answered(flow: &Flow) -> bool
     ensures { result ≡ can_not_be_answered flow.now }
 {

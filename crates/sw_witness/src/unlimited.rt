@@ -5,7 +5,7 @@ ghost use Rattle.sw_config.specs.Limits.{HasNoLimits, flow_outstanding};
 use std::marker::Model;
 use sw_config::{Flow, Network};
 
-// Has the flow a limit of its own?
+/// Has the flow a limit of its own?
 fn has_limit(flow: &Flow) -> bool
     ensures { result ≡ is_some (flow_outstanding flow.now) }
 {
@@ -15,7 +15,7 @@ fn has_limit(flow: &Flow) -> bool
     }
 }
 
-// Has no node a limit?
+/// Has no node a limit?
 fn no_node_has_limit(network: &Network) -> bool
     ensures { IsTrue result ↔ All (λ e. e.outstanding ≡ None) network.now.nodes }
 {
@@ -27,7 +27,7 @@ fn no_node_has_limit(network: &Network) -> bool
     true
 }
 
-// Has no flow a limit?
+/// Has no flow a limit?
 fn no_flow_has_limit(network: &Network) -> bool
     ensures { IsTrue result ↔ All (λ f. flow_outstanding f ≡ None) network.now.flows }
 {

@@ -10,7 +10,7 @@ use sw_config::Network;
 use sw_mend::{Change, network_with_all};
 use sw_search::{VerdictWorkers, is_free};
 
-// The changes that take the replies of these flows away.
+/// The changes that take the replies of these flows away.
 fn replies_away(alloc: Global, flows: &[u16]) -> Result<Vec<Change>, AllocError>
     ensures { IfOk result (λ v. v.items ≡ map WithoutReply flows.now) }
 {

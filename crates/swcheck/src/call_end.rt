@@ -21,7 +21,7 @@ pub(crate) struct CallEnd {
 
 impl CallEnd {
     /// The end of a call of which nothing is said.
-    pub(crate) fn bare(ended: Ended) -> CallEnd {
+    pub(crate) fn from_ended(ended: Ended) -> CallEnd {
         CallEnd {
             ended,
             hint: None,
@@ -39,7 +39,7 @@ impl CallEnd {
     }
 }
 
-// The status of a call that ended so, if a hint may be told of it: none where the call told that there was not enough memory.
+/// The status of a call that ended so, if a hint may be told of it: none where the call told that there was not enough memory.
 fn hinted_status(hints: Hints, ended: Ended) -> Option<u8> {
     match (hints, ended) {
         (Hints::Auto, Ended::Status(NO_ROOM)) => None,
@@ -48,7 +48,7 @@ fn hinted_status(hints: Hints, ended: Ended) -> Option<u8> {
     }
 }
 
-// The hint of a text that has this fault.
+/// The hint of a text that has this fault.
 fn faulty_hint(
     alloc: Global,
     name: &str,
@@ -74,7 +74,7 @@ pub(crate) fn faulty_end(
     CallEnd::with_hint(ended, hint)
 }
 
-// The hint of the file's fault, or else of what was found.
+/// The hint of the file's fault, or else of what was found.
 fn hint_of<X, H: Fn(&Network, Option<&[u8]>, &X) -> Result<Option<String>, AllocError>>(
     alloc: Global,
     name: &str,

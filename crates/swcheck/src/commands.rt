@@ -9,8 +9,8 @@ use crate::found_hints::{
     witness_hint,
 };
 use crate::noting_writer::NotingWriter;
-use crate::objects::{object, objects, verdict_object, verdict_objects};
-use crate::opened::opened;
+use crate::objects::{object, objects};
+use crate::opened::open_both;
 use crate::recorded::{Job, is_schedule_read, run_load, tell_besides};
 use crate::rmap_words::access_of;
 use std::fs;
@@ -21,19 +21,16 @@ use std::thread::Threads;
 use sw_app::{check, report, route};
 use sw_app_rmap::{Request, rmap};
 use sw_args::Call;
-use sw_calls::{
-    Hints, check_files, decide_file, migrate_file, report_file, route_file, tell_refused,
-    write_sample,
-};
-use sw_changes::{margin, mend};
+use sw_calls::{Hints, check_files, decide_file, migrate_file, tell_refused, write_sample};
+use sw_changes::{ChangeValues, margin, mend};
 use sw_engine::{CommandEnd, Lines};
-use sw_explain::{DrawOptions, draw, explain};
-use sw_json_verdicts::{AuditOptions, audit, audit_one};
-use sw_runs::{replay, witness};
+use sw_explain::{DrawOptions, ExplainValues, draw, explain};
+use sw_json_verdicts::{AuditOptions, VerdictValues, audit, audit_one};
+use sw_runs::{RunValues, replay, witness};
 use sw_search::VerdictWorkers;
 use sw_text::Ended;
 
-// What is told of words of `rmap` that ask for no command.
+/// What is told of words of `rmap` that ask for no command.
 const NO_ACCESS: &str = "ACTION is read or write, and --no-ack goes with write alone";
 
 // ---- commands with one network file
@@ -47,13 +44,11 @@ fn call_route<R: Files + AllocGlobal, W: Write>(
     writer: &mut W,
 ) -> CallEnd {
     let alloc = rt.alloc();
-    let end = if json {
-        match fs::open(rt, file) {
-            Ok(mut reader) => route(alloc, &mut reader, flow, &verdict_object(file), writer),
-            Err(_) => CommandEnd::of_unread(),
-        }
-    } else {
-        route_file(rt, file, flow, writer)
+    let form = object(VerdictValues, file);
+    let end = match fs::open(rt, file) {
+        Ok(mut reader) if json => route(alloc, &mut reader, flow, &form, writer),
+        Ok(mut reader) => route(alloc, &mut reader, flow, &Lines, writer),
+        Err(_) => CommandEnd::of_unread(),
     };
     call_end(alloc, hints, file, end, |network, _text, found| {
         route_hint(alloc, file, flow, network, found)
@@ -69,13 +64,11 @@ fn call_report<R: Files + AllocGlobal, C: VerdictWorkers, W: Write>(
     writer: &mut W,
 ) -> CallEnd {
     let alloc = rt.alloc();
-    let end = if json {
-        match fs::open(rt, file) {
-            Ok(mut reader) => report(workers, alloc, &mut reader, &verdict_object(file), writer),
-            Err(_) => CommandEnd::of_unread(),
-        }
-    } else {
-        report_file(rt, workers, file, writer)
+    let form = object(VerdictValues, file);
+    let end = match fs::open(rt, file) {
+        Ok(mut reader) if json => report(workers, alloc, &mut reader, &form, writer),
+        Ok(mut reader) => report(workers, alloc, &mut reader, &Lines, writer),
+        Err(_) => CommandEnd::of_unread(),
     };
     noted_end(alloc, hints, file, end, |_network, _text, _found| Ok(None))
 }
@@ -104,10 +97,9 @@ fn call_explain<R: Files + AllocGlobal, C: VerdictWorkers, W: Write>(
     writer: &mut W,
 ) -> CallEnd {
     let alloc = rt.alloc();
+    let form = object(ExplainValues, file);
     let end = match fs::open(rt, file) {
-        Ok(mut reader) if json => {
-            explain(workers, alloc, &mut reader, true, &object(file), writer)
-        }
+        Ok(mut reader) if json => explain(workers, alloc, &mut reader, true, &form, writer),
         Ok(mut reader) => explain(workers, alloc, &mut reader, all, &Lines, writer),
         Err(_) => CommandEnd::of_unread(),
     };
@@ -159,10 +151,9 @@ fn call_mend<R: Files + AllocGlobal, C: VerdictWorkers, W: Write>(
     writer: &mut W,
 ) -> CallEnd {
     let alloc = rt.alloc();
+    let form = object(ChangeValues, file);
     let end = match fs::open(rt, file) {
-        Ok(mut reader) if json => {
-            mend(workers, alloc, &mut reader, pairs, &object(file), writer)
-        }
+        Ok(mut reader) if json => mend(workers, alloc, &mut reader, pairs, &form, writer),
         Ok(mut reader) => mend(workers, alloc, &mut reader, pairs, &Lines, writer),
         Err(_) => CommandEnd::of_unread(),
     };
@@ -180,8 +171,9 @@ fn call_margin<R: Files + AllocGlobal, C: VerdictWorkers, W: Write>(
     writer: &mut W,
 ) -> CallEnd {
     let alloc = rt.alloc();
+    let form = object(ChangeValues, file);
     let end = match fs::open(rt, file) {
-        Ok(mut reader) if json => margin(workers, alloc, &mut reader, &object(file), writer),
+        Ok(mut reader) if json => margin(workers, alloc, &mut reader, &form, writer),
         Ok(mut reader) => margin(workers, alloc, &mut reader, &Lines, writer),
         Err(_) => CommandEnd::of_unread(),
     };
@@ -218,18 +210,11 @@ fn call_check<R: Files + AllocGlobal, C: VerdictWorkers, W: Write>(
     writer: &mut W,
 ) -> CallEnd {
     let alloc = rt.alloc();
+    let form = objects(VerdictValues, paths.0, paths.1);
     let end = if json {
-        match opened(rt, paths.0, paths.1) {
-            Some((mut network, mut certificate)) => {
-                let form = verdict_objects(paths.0, paths.1);
-                check(
-                    workers,
-                    alloc,
-                    &mut network,
-                    &mut certificate,
-                    &form,
-                    writer,
-                )
+        match open_both(rt, paths.0, paths.1) {
+            Some((mut network, mut list)) => {
+                check(workers, alloc, &mut network, &mut list, &form, writer)
             }
             None => CommandEnd::of_unread(),
         }
@@ -250,9 +235,9 @@ fn call_replay<R: Files + AllocGlobal, W: Write>(
     writer: &mut W,
 ) -> CallEnd {
     let alloc = rt.alloc();
-    let end = match opened(rt, file, path) {
+    let form = objects(RunValues, file, path);
+    let end = match open_both(rt, file, path) {
         Some((mut network, mut schedule)) if json => {
-            let form = objects(file, path);
             replay(alloc, &mut network, &mut schedule, &form, writer)
         }
         Some((mut network, mut schedule)) => {
@@ -274,7 +259,7 @@ fn call_run<'a, R: Files + Eprint + AllocGlobal + Threads + Wait + Sync, W: Writ
     requires { 0 < job.now.workers }
 {
     if is_schedule_read(rt, job) {
-        return CallEnd::bare(tell_refused(rt, "--schedule names a file that is read"));
+        return CallEnd::from_ended(tell_refused(rt, "--schedule names a file that is read"));
     }
     let alloc = rt.alloc();
     let end = run_load(rt, job, writer);
@@ -294,7 +279,7 @@ fn call_migrate<R: Files + AllocGlobal, W: Write>(
     faulty_end(rt.alloc(), hints, file, end.ended, &end.faulty)
 }
 
-// An audit of these files.
+/// An audit of these files.
 fn run_audit<R: AllocGlobal + Threads + Sync, C: VerdictWorkers, W: Write>(
     rt: &R,
     workers: &C,
@@ -318,7 +303,7 @@ fn run_audit<R: AllocGlobal + Threads + Sync, C: VerdictWorkers, W: Write>(
     audit(rt, workers, rt.alloc(), &disk, files, &options, writer)
 }
 
-// The object of `decide` is an audit's of one file.
+/// The object of `decide` is an audit's of one file.
 fn call_decide_object<R: Files + AllocGlobal, C: VerdictWorkers, W: Write>(
     rt: &R,
     workers: &C,
@@ -430,7 +415,7 @@ pub(crate) fn run_call<
                 };
                 call_rmap(rt, hints, file, &request, writer)
             }
-            None => CallEnd::bare(tell_refused(rt, NO_ACCESS)),
+            None => CallEnd::from_ended(tell_refused(rt, NO_ACCESS)),
         },
         Call::Mend { file, pairs, json } => {
             call_mend(rt, workers, hints, file, pairs, json, writer)
@@ -443,7 +428,16 @@ pub(crate) fn run_call<
             json,
             quiet,
             certificates,
-        } => CallEnd::bare(run_audit(rt, workers, host, files, json, quiet, certificates, writer)),
-        Call::Init { name } => CallEnd::bare(write_sample(rt, name, writer)),
+        } => CallEnd::from_ended(run_audit(
+            rt,
+            workers,
+            host,
+            files,
+            json,
+            quiet,
+            certificates,
+            writer,
+        )),
+        Call::Init { name } => CallEnd::from_ended(write_sample(rt, name, writer)),
     }
 }

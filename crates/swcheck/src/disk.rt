@@ -43,6 +43,6 @@ impl Storage for Disk<'_> {
         let Ok(mut writer) = fs::create(self.host, path.as_str()) else {
             return false;
         };
-        write_whole(&mut writer, certificate).is_ok()
+        write_whole(certificate, &mut writer).is_ok()
     }
 }

@@ -16,7 +16,7 @@ use sw_schedule::ReplayEnd;
 use sw_search::Verdict;
 
 /// The text of a hint on what goes by this name.
-fn told(
+fn hint_text(
     alloc: Global,
     name: &str,
     hint: Result<Hint, AllocError>,
@@ -34,7 +34,7 @@ fn misrouted_text(
     fault: RouteFault,
 ) -> Result<Option<String>, AllocError> {
     let hint = misrouted_hint(alloc, network, flow, place, fault);
-    told(alloc, name, hint)
+    hint_text(alloc, name, hint)
 }
 
 /// The hint of a name that no flow has.
@@ -44,7 +44,7 @@ fn unknown_flow_text(
     network: &Network,
     flow: &str,
 ) -> Result<Option<String>, AllocError> {
-    told(alloc, name, unknown_flow_hint(alloc, network, flow))
+    hint_text(alloc, name, unknown_flow_hint(alloc, network, flow))
 }
 
 /// What to tell of a route of a flow of this name.
@@ -77,7 +77,7 @@ pub(crate) fn decide_hint(
         Verdict::Misrouted(flow, place, fault) => {
             misrouted_text(alloc, name, network, *flow, place, *fault)
         }
-        Verdict::Cyclic(_) => told(alloc, "help", cyclic_hint(alloc)),
+        Verdict::Cyclic(_) => hint_text(alloc, "help", cyclic_hint(alloc)),
         Verdict::Free(_) => Ok(None),
     }
 }
@@ -153,10 +153,10 @@ pub(crate) fn check_hint(
     match (found, text) {
         (CheckFinding::Refused(certificate, refusal), _) => {
             let hint = refused_certificate_hint(alloc, network, paths.0, certificate, *refusal);
-            told(alloc, paths.1, hint)
+            hint_text(alloc, paths.1, hint)
         }
         (CheckFinding::WrongLine(line), Some(text)) => {
-            told(alloc, paths.1, certificate_line_hint(alloc, text, *line))
+            hint_text(alloc, paths.1, certificate_line_hint(alloc, text, *line))
         }
         _ => Ok(None),
     }
@@ -174,9 +174,9 @@ fn report_hint(
     match (report.replayed.outcome, &report.parts) {
         (ReplayEnd::Refused(number, refusal), _) => {
             let hint = refused_step_hint(alloc, network, text, schedule, number, refusal);
-            told(alloc, path, hint)
+            hint_text(alloc, path, hint)
         }
-        (_, Some(parts)) => told(alloc, path, lock_up_hint(alloc, network, parts)),
+        (_, Some(parts)) => hint_text(alloc, path, lock_up_hint(alloc, network, parts)),
         _ => Ok(None),
     }
 }
@@ -191,7 +191,7 @@ pub(crate) fn replay_hint(
 ) -> Result<Option<String>, AllocError> {
     match (found, text) {
         (ReplayFinding::WrongLine(line), Some(text)) => {
-            told(alloc, path, schedule_line_hint(alloc, network, text, *line))
+            hint_text(alloc, path, schedule_line_hint(alloc, network, text, *line))
         }
         (ReplayFinding::Replayed(report), Some(text)) => {
             report_hint(alloc, path, network, text, report)
@@ -210,7 +210,7 @@ pub(crate) fn run_hint(
 ) -> Result<Option<String>, AllocError> {
     match (found, text) {
         (RunFinding::Faulty(fault), Some(text)) => {
-            told(alloc, path, load_hint(alloc, network, text, fault))
+            hint_text(alloc, path, load_hint(alloc, network, text, fault))
         }
         _ => Ok(None),
     }

@@ -23,7 +23,7 @@ use std::process::ExitCode;
 use sw_graph::SideBySide;
 use sw_run::with_progress;
 
-// On a terminal it shows, while the call goes on, for how long it has.
+/// On a terminal it shows, while the call goes on, for how long it has.
 fn main(rt: HostRuntime) -> ExitCode {
     let run = || run_program(&rt, &SideBySide::new(&rt), &rt);
     let status = if rt.stderr().is_terminal() {

@@ -1,11 +1,11 @@
 //! The forms of answers that are objects of JSON, by the paths of the files.
 use crate::disk::RELEASE;
 use sw_json::ObjectForm;
-use sw_json_verdicts::VerdictObject;
 
 /// Of a command of one file.
-pub(crate) fn object(path: &str) -> ObjectForm<'_> {
+pub(crate) fn object<V>(values: V, path: &str) -> ObjectForm<'_, V> {
     ObjectForm {
+        values,
         path,
         second: None,
         release: RELEASE,
@@ -13,24 +13,11 @@ pub(crate) fn object(path: &str) -> ObjectForm<'_> {
 }
 
 /// Of a command of two files.
-pub(crate) fn objects<'a>(path: &'a str, second: &'a str) -> ObjectForm<'a> {
+pub(crate) fn objects<'a, V>(values: V, path: &'a str, second: &'a str) -> ObjectForm<'a, V> {
     ObjectForm {
+        values,
         path,
         second: Some(second),
         release: RELEASE,
-    }
-}
-
-/// Of `route` and `report`.
-pub(crate) fn verdict_object(path: &str) -> VerdictObject<'_> {
-    VerdictObject {
-        object: object(path),
-    }
-}
-
-/// Of `check`.
-pub(crate) fn verdict_objects<'a>(path: &'a str, second: &'a str) -> VerdictObject<'a> {
-    VerdictObject {
-        object: objects(path, second),
     }
 }

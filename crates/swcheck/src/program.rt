@@ -7,7 +7,7 @@ use crate::call_end::CallEnd;
 use crate::commands::run_call;
 use crate::noting_writer::{Failed, NotingWriter};
 use crate::told::tell_text;
-use crate::unread::{tell_failed, unread};
+use crate::unread::{read_failure, tell_failed};
 use std::io;
 use std::rt::{Env, Files};
 use std::sync::Wait;
@@ -62,18 +62,18 @@ fn run_asked<R: Files + Print + Eprint + AllocGlobal + Threads + Wait + Sync, C:
     tell_more(rt, call, hints, end, writer.unwritten)
 }
 
-// Tells which of the call's files can't be read, and why.
+/// Tells which of the call's files can't be read, and why.
 fn tell_unread_files<R: Files + Eprint + AllocGlobal>(rt: &R, call: &Call<'_>) {
     if let Some(file) = file_of(call) {
-        tell_failed(rt, unread(rt, file));
+        tell_failed(rt, read_failure(rt, file));
     }
     if let Some(second) = second_of(call) {
-        tell_failed(rt, unread(rt, second));
+        tell_failed(rt, read_failure(rt, second));
     }
 }
 
-// Tells what to do about the way the call ended, if hints are wanted: `unwritten` is what could not be written, as far as that is known. How it
-// ended stays as it is.
+/// Tells what to do about the way the call ended, if hints are wanted: `unwritten` is what could not be written, as far as that is known. How it
+/// ended stays as it is.
 fn tell_more<R: Files + Eprint + AllocGlobal>(
     rt: &R,
     call: &Call<'_>,

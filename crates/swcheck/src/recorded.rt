@@ -3,7 +3,7 @@ ghost use Rattle.std.specs.Prelude.{◌<◌};
 
 use crate::noting_writer::{Failed, NotingWriter};
 use crate::objects::objects;
-use crate::opened::opened;
+use crate::opened::open_both;
 use crate::told::{tell_long, tell_text};
 use std::fs;
 use std::io::{self, Read, Write};
@@ -12,7 +12,7 @@ use std::rt::Files;
 use std::sync::Wait;
 use std::thread::Threads;
 use sw_engine::{CommandEnd, Lines};
-use sw_runs::{Open, Options, RunFinding, RunSchedule, Wants, run_recorded};
+use sw_runs::{Open, Options, RunFinding, RunSchedule, RunValues, Wants, run_recorded};
 use sw_text::Ended;
 
 /// What is run, by so many threads and in at most so many steps, and what is wanted besides: the file in which the steps are to be written, a
@@ -40,7 +40,7 @@ pub(crate) fn tell_besides(rt: &impl Eprint, end: &CommandEnd<RunFinding>) {
     }
 }
 
-// Whether both paths lead to one file: it has one device and one number.
+/// Whether both paths lead to one file: it has one device and one number.
 fn are_same<R: Files>(rt: &R, path: &str, other: &str) -> bool {
     match (fs::metadata(rt, path), fs::metadata(rt, other)) {
         (Ok(known), Ok(other)) => known.dev() == other.dev() && known.ino() == other.ino(),
@@ -48,7 +48,7 @@ fn are_same<R: Files>(rt: &R, path: &str, other: &str) -> bool {
     }
 }
 
-// Runs the load, and tells what comes of it. The schedule, where one is wanted, is written to `schedule`.
+/// Runs the load, and tells what comes of it. The schedule, where one is wanted, is written to `schedule`.
 fn run_job<R: AllocGlobal + Threads + Wait + Sync, N: Read, L: Read, W: Write, S: Write>(
     rt: &R,
     job: &Job<'_>,
@@ -69,17 +69,17 @@ fn run_job<R: AllocGlobal + Threads + Wait + Sync, N: Read, L: Read, W: Write, S
     };
     let alloc = rt.alloc();
     if job.json {
-        let form = objects(job.network, job.load);
+        let form = objects(RunValues, job.network, job.load);
         return run_recorded(
-            rt, alloc, network, load, options, wants, &form, writer, schedule, &Open,
+            rt, alloc, network, load, options, wants, &Open, &form, writer, schedule,
         );
     }
     run_recorded(
-        rt, alloc, network, load, options, wants, &Lines, writer, schedule, &Open,
+        rt, alloc, network, load, options, wants, &Open, &Lines, writer, schedule,
     )
 }
 
-// Runs the load. Where a schedule is wanted, the run's steps are written to that file, which is made, or emptied, before the run.
+/// Runs the load. Where a schedule is wanted, the run's steps are written to that file, which is made, or emptied, before the run.
 fn run_opened<'a, R: Files + AllocGlobal + Threads + Wait + Sync, N: Read, L: Read, W: Write>(
     rt: &R,
     job: &Job<'a>,
@@ -102,7 +102,10 @@ fn run_opened<'a, R: Files + AllocGlobal + Threads + Wait + Sync, N: Read, L: Re
         Err(error) => {
             let kind = error.kind();
             writer.unwritten = Some(Failed { path, kind });
-            CommandEnd::of_unwritten()
+            CommandEnd {
+                ended: Ended::WriteFailed,
+                ..CommandEnd::of_unread()
+            }
         }
     }
 }
@@ -123,7 +126,7 @@ pub(crate) fn run_load<'a, R: Files + AllocGlobal + Threads + Wait + Sync, W: Wr
 ) -> CommandEnd<RunFinding>
     requires { 0 < job.now.workers }
 {
-    match opened(rt, job.network, job.load) {
+    match open_both(rt, job.network, job.load) {
         Some((mut network, mut load)) => run_opened(rt, job, &mut network, &mut load, writer),
         None => CommandEnd::of_unread(),
     }

@@ -52,7 +52,7 @@ fn reason_of(kind: ErrorKind) -> &'static str {
     }
 }
 
-// The path, and the reason.
+/// The path, and the reason.
 fn unread_text(alloc: Global, path: &str, kind: ErrorKind) -> Result<String, AllocError> {
     let reason = String::from_str(alloc, reason_of(kind))?;
     Hint::new(alloc, reason).text(alloc, path)
@@ -60,7 +60,7 @@ fn unread_text(alloc: Global, path: &str, kind: ErrorKind) -> Result<String, All
 
 /// Why a file or a folder can't be read, if it can't: it is opened once more, and a byte of it is read. A pipe is not asked: it would lose
 /// the byte, or have none yet.
-pub(crate) fn unread<'a, R: Files>(rt: &R, path: &'a str) -> Option<Failed<'a>> {
+pub(crate) fn read_failure<'a, R: Files>(rt: &R, path: &'a str) -> Option<Failed<'a>> {
     let known = match fs::metadata(rt, path) {
         Ok(known) => known,
         Err(error) => return Some(Failed {

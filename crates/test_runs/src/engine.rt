@@ -30,9 +30,9 @@ pub(crate) fn show_engine<R: Threads + Wait + Sync>(
         &mut network,
         &mut load,
         OPTIONS,
+        &gate,
         &Lines,
         &mut writer,
-        &gate,
     );
     let Ended::Status(status) = end.into_ended() else {
         return Err(no_text());

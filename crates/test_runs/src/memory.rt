@@ -15,7 +15,7 @@ use crate::memory::networks::{RMAP, TURN, Work, add_of_file};
 use std::alloc::{AllocError, Global};
 use std::io;
 
-// Adds to the text what each call comes to.
+/// Adds to the text what each call comes to.
 fn add_all(alloc: Global, text: &mut String) -> Result<(), AllocError> {
     let entries = tables::entries(alloc)?;
     let channels = tables::channels(alloc)?;

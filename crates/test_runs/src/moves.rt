@@ -28,11 +28,11 @@ impl Move<'_> {
                 cargo: Vec::from_slice(alloc, cargo)?,
                 end,
             },
-            Move::Fct(channel) => Step::Fct(Chan::new(channel)),
-            Move::FctIn(channel) => Step::FctIn(Chan::new(channel)),
-            Move::Emit(node) => Step::Emit(node),
-            Move::Arrive(channel) => Step::Arrive(Chan::new(channel)),
-            Move::Accept(node) => Step::Accept(node),
+            Move::Fct(channel) => Step::Move(sw_machine::Move::Fct(Chan::new(channel))),
+            Move::FctIn(channel) => Step::Move(sw_machine::Move::FctIn(Chan::new(channel))),
+            Move::Emit(node) => Step::Move(sw_machine::Move::Emit(node)),
+            Move::Arrive(channel) => Step::Move(sw_machine::Move::Arrive(Chan::new(channel))),
+            Move::Accept(node) => Step::Move(sw_machine::Move::Accept(node)),
         })
     }
 }

@@ -42,14 +42,14 @@ pub(crate) fn make(alloc: Global, net: &mut Core<'_>, tried: Move<'_>) -> Result
     }
 }
 
-// Makes a step of the link end, if it can make one. Then, is that an FCT?
+/// Makes a step of the link end, if it can make one. Then, is that an FCT?
 fn make_step(alloc: Global, net: &mut Core<'_>, end: LinkEnd) -> Option<bool> {
     if end.number() >= net.network().channels() {
         return None;
     }
     let made = net.step_of(alloc, end).unwrap_or(None);
     let is_fct = match &made {
-        Some(step) => Some(matches!(step, Step::Fct(_))),
+        Some(step) => Some(matches!(step, Step::Move(sw_machine::Move::Fct(_)))),
         None => None,
     };
     drop(made);

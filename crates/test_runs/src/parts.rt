@@ -93,7 +93,7 @@ const PARTS: &[(&str, PartCase)] = &[
     ("characters_arrive_in_order", PartCase::Wires),
 ];
 
-// Whether all came as it is wanted.
+/// Whether all came as it is wanted.
 fn is_as_wanted<W: RoundWorkers>(workers: &W, alloc: Global, part: PartCase) -> bool {
     match part {
         PartCase::InTurn => arbiters::pick(FIXED_AND_ROUND_ROBIN),

@@ -74,7 +74,7 @@ impl Together {
 }
 
 impl Gate for Together {
-    fn deciding(&self, cell: CellId) {
+    fn decides(&self, cell: CellId) {
         if cell == CellId::Switch(1) && self.stepped.load(Ordering::SeqCst) {
             self.decided_again.store(true, Ordering::SeqCst);
         }
@@ -96,7 +96,7 @@ impl Gate for Together {
         }
     }
 
-    fn committed(&self, cell: CellId) {
+    fn commits(&self, cell: CellId) {
         if cell == CellId::Switch(1) && !self.stepped.swap(true, Ordering::SeqCst) {
             self.wait(Awaited::Again);
         }

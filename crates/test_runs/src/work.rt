@@ -59,7 +59,7 @@ fn show_load<R: Threads + Wait + Sync>(
     }
 }
 
-// Does it with the load that the text declares.
+/// Does it with the load that the text declares.
 fn show_read<R: Threads + Wait + Sync>(
     rt: &HostRuntime,
     threads: &R,
@@ -74,7 +74,7 @@ fn show_read<R: Threads + Wait + Sync>(
     }
 }
 
-// Does it with the network and the load that the texts declare.
+/// Does it with the network and the load that the texts declare.
 fn show_texts<R: Threads + Wait + Sync>(
     rt: &HostRuntime,
     threads: &R,
@@ -92,7 +92,7 @@ fn show_texts<R: Threads + Wait + Sync>(
     }
 }
 
-// Prints what comes of the case.
+/// Prints what comes of the case.
 fn show_case<R: Threads + Wait + Sync>(
     rt: &HostRuntime,
     threads: &R,

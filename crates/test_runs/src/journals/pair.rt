@@ -23,7 +23,7 @@ pub(crate) struct Pair<'n> {
     ghost cells_are: { All (λ c. c.name ≡ journal.name) cells.items },
 }
 
-// Whether the link end is one of the cell's, and idle: then that is marked.
+/// Whether the link end is one of the cell's, and idle: then that is marked.
 fn declare_idle(journal: &mut Journal<'_>, cell: &Cell, end: LinkEnd) -> bool
     requires { cell.now.name ≡ journal.old.name }
     ensures { IsSameRun journal.old journal.new }

@@ -74,7 +74,7 @@ pub(crate) const BETWEEN: &[JournalTrial] = &[
     JournalTrial::Numbers(1),
 ];
 
-// Prints the numbers of the node's link end.
+/// Prints the numbers of the node's link end.
 fn show_end(rt: &HostRuntime, pair: &Pair<'_>, node: u16) -> io::Result<()> {
     print!(rt; "link end {node}").and(show_numbers(rt, pair.numbers(node)))
 }

@@ -95,7 +95,7 @@ struct ThreadReport {
     made: usize,
 }
 
-// The cells of both nodes. What works with them names no journal, and is cheaper to prove.
+/// The cells of both nodes. What works with them names no journal, and is cheaper to prove.
 trait Cells {
     /// The numbers of the node's link end.
     fn numbers(&self, node: u16) -> Option<Numbers>;
@@ -128,7 +128,7 @@ impl<'s, 'n, R: Wait> Cells for LockedCells<'s, 'n, R> {
     }
 }
 
-// Waits until so many turns are over. Are they?
+/// Waits until so many turns are over. Are they?
 fn waits_for(turns: &AtomicU64, count: u64) -> bool {
     for _ in 0..LOOKS {
         if turns.load(Ordering::SeqCst) >= count {
@@ -139,7 +139,7 @@ fn waits_for(turns: &AtomicU64, count: u64) -> bool {
     false
 }
 
-// Does it, and counts how often the step is made. So many turns are over then as it ends, if no more are.
+/// Does it, and counts how often the step is made. So many turns are over then as it ends, if no more are.
 fn done_of<C: Cells>(cells: &C, turns: &AtomicU64, deed: &Deed) -> ThreadReport {
     let tried = if deed.takes {
         Move::FctIn(deed.channel)
@@ -164,7 +164,7 @@ fn done_of<C: Cells>(cells: &C, turns: &AtomicU64, deed: &Deed) -> ThreadReport 
     ThreadReport { numbers, made }
 }
 
-// Prints what the two threads tell.
+/// Prints what the two threads tell.
 fn show_threads<C: Cells + Sync, R: Threads>(
     rt: &HostRuntime,
     threads: &R,

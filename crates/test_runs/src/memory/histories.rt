@@ -15,7 +15,7 @@ const LOAD: &[u8] = b"packet = [{ flow = 'f0', cargo = 'A0' }]";
 
 type Steps<'n> = History<'n, SwitchRoutes<'n>, Policy>;
 
-// Whether the load's packet was begun, by a step for which room was made at once or again.
+/// Whether the load's packet was begun, by a step for which room was made at once or again.
 fn is_begun(alloc: Global, history: &mut Steps<'_>) -> bool {
     let _ = history.reserve();
     if history.reserve().is_err() {
@@ -27,7 +27,7 @@ fn is_begun(alloc: Global, history: &mut Steps<'_>) -> bool {
     }
 }
 
-// Begins it, at once or again after a refusal that changed nothing, and adds all that the network comes to.
+/// Begins it, at once or again after a refusal that changed nothing, and adds all that the network comes to.
 fn add_history(
     alloc: Global,
     history: &mut Steps<'_>,

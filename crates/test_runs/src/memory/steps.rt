@@ -68,7 +68,7 @@ pub fn text_of(alloc: Global, net: &Core<'_>) -> Result<String, AllocError> {
     }
 }
 
-// Makes the step, at once or again after a refusal that changed nothing; else that is told.
+/// Makes the step, at once or again after a refusal that changed nothing; else that is told.
 fn make_again(
     alloc: Global,
     net: &mut Core<'_>,

@@ -5,7 +5,7 @@ use std::alloc::{AllocError, Global};
 use sw_route::{IntervalRoutes, Routing, TableRoutes};
 use sw_topo::{Builder, PlaceEnd, Port, PortSet, TopoError};
 
-// Whether the entry was added, of one address or of more, at once or again after a refusal that changed nothing.
+/// Whether the entry was added, of one address or of more, at once or again after a refusal that changed nothing.
 fn is_added(table: &mut TableRoutes, first: u8, last: u8) -> bool
     requires low { 32 ≤ first }
     requires rising { first ≤ last }
@@ -49,7 +49,7 @@ pub fn entries(alloc: Global) -> Result<usize, AllocError> {
     }
 }
 
-// Adds the link, at once or again.
+/// Adds the link, at once or again.
 fn link(builder: &mut Builder, node: u16, switch: u16, port: u8) -> Result<(), AllocError>
     requires node { node < builder.old.nodes }
     requires switch { switch < builder.old.switches }

@@ -46,7 +46,7 @@ fn add_bytes(alloc: Global, name: &str, bytes: &[u8], text: &mut String) -> Resu
     write!(text, "{name} {digits}\n")
 }
 
-// Adds the reply to the packet, at once or again after a refusal that left the memory as it was.
+/// Adds the reply to the packet, at once or again after a refusal that left the memory as it was.
 fn add_reply(
     alloc: Global,
     target: &mut Target,

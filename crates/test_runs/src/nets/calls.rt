@@ -88,7 +88,9 @@ pub(crate) const LEFT: &[Call] = &[Call::First, Call::Undelivered, Call::Nodes];
 fn is_so(alloc: Global, net: &mut Core<'_>, asked: Asked) -> bool {
     match asked {
         Asked::CanBegin(node) => node < net.network().nodes() && net.can_begin(node),
-        Asked::CanSendFct(channel) => net.is_possible(&Step::Fct(Chan::new(channel))),
+        Asked::CanSendFct(channel) => net.is_possible(&Step::Move(sw_machine::Move::Fct(Chan::new(
+            channel,
+        )))),
         Asked::SendsFct => matches!(make_step(alloc, net, LinkEnd::new(END)), Some(true)),
         Asked::NoneAsk => net.asks(LinkEnd::new(END)).is_empty(),
     }

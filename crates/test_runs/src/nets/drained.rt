@@ -28,7 +28,7 @@ pub(crate) enum Choice {
     OutOfRange,
 }
 
-// The same with the certificate that was read.
+/// The same with the certificate that was read.
 fn show_certified<'n>(
     rt: &HostRuntime,
     network: &'n Network,

@@ -14,7 +14,7 @@ pub(crate) enum Detail {
     Packets,
 }
 
-// The digits of the bytes. A long row of one byte is told once, with its length.
+/// The digits of the bytes. A long row of one byte is told once, with its length.
 fn digits_of(alloc: Global, bytes: &[u8]) -> Result<String, AllocError> {
     let count = bytes.len();
     if 100 < count && &bytes[1..] == &bytes[..count - 1] {

@@ -13,7 +13,7 @@ const MANY: u32 = 100_000;
 /// As many entries as a load here may have.
 const ENTRIES: usize = 16;
 
-// Begins a packet of each entry where one is left and can begin, and counts those that were begun. How many began?
+/// Begins a packet of each entry where one is left and can begin, and counts those that were begun. How many began?
 fn begin_each(alloc: Global, net: &mut Core<'_>, packets: &[LoadPacket], begun: &mut [u16]) -> u32 {
     let mut made: u32 = 0;
     for number in 0..begun.len() {

@@ -8,7 +8,7 @@ use sw_topo::Chan;
 const TEXT: &[u8] =
     b"swcert 1\nchannels 2\nnumber 0\nnumber 65535\nflows 2\nflow 1\nplace 0 0\nflow 0\nend\n";
 
-// The text of a certificate of two numbers and two flows, the first of which has one place so often; or there is no such certificate.
+/// The text of a certificate of two numbers and two flows, the first of which has one place so often; or there is no such certificate.
 fn has_text(alloc: Global, times: usize, wanted: Option<&[u8]>) -> bool {
     let start = Place {
         channel: Chan::new(0),

@@ -71,7 +71,7 @@ pub(crate) const AGAIN: &[Shown] = &[
     },
 ];
 
-// Whether there was room for the channels and the causes.
+/// Whether there was room for the channels and the causes.
 fn are_added(alloc: Global, cycle: &mut Cycle, shown: &Shown) -> bool {
     let mut added = true;
     for &number in shown.channels {

@@ -16,7 +16,7 @@ const EIGHT: &[NChar] = &[
     NChar::Data(7),
 ];
 
-// An end asks so often, these N-Chars arrive and are taken, until when it asks for no more, and then it asks again or does not.
+/// An end asks so often, these N-Chars arrive and are taken, until when it asks for no more, and then it asks again or does not.
 fn takes(end: &mut RxEnd, times: u8, characters: &[NChar], asks_again: bool) -> bool {
     for _ in 0..times {
         if !end.can_issue() {
@@ -42,7 +42,7 @@ fn takes(end: &mut RxEnd, times: u8, characters: &[NChar], asks_again: bool) -> 
     end.can_issue() == asks_again
 }
 
-// So does a new end for so many.
+/// So does a new end for so many.
 fn asks(alloc: Global, capacity: usize, times: u8, characters: &[NChar], asks_again: bool) -> bool
     requires { IsCapacity capacity }
 {

@@ -17,7 +17,7 @@ const TARGET: TargetConfig = TargetConfig {
     slots: 1,
 };
 
-// A packet is sent to its end.
+/// A packet is sent to its end.
 fn sends(alloc: Global, node: &mut NodeCell) -> bool {
     if !node.can_begin() || node.begin(alloc, &[3], &[0xAA], End::Eep).is_err() {
         return false;
@@ -35,7 +35,7 @@ fn sends(alloc: Global, node: &mut NodeCell) -> bool {
     node.can_begin()
 }
 
-// A packet comes out.
+/// A packet comes out.
 fn receives(alloc: Global, node: &mut NodeCell) -> bool {
     if !node.can_issue() {
         return false;
@@ -56,7 +56,7 @@ fn receives(alloc: Global, node: &mut NodeCell) -> bool {
     }
 }
 
-// The machine's step takes nothing before something came.
+/// The machine's step takes nothing before something came.
 fn takes_what_came(alloc: Global, node: &mut NodeCell) -> bool {
     if !node::can_begin(0, node) || !matches!(node::accept(alloc, 0, node), Ok(false)) {
         return false;
@@ -78,7 +78,7 @@ enum Work {
     TakeWhatCame,
 }
 
-// One function alone owns a cell: to let one go is dear to prove.
+/// One function alone owns a cell: to let one go is dear to prove.
 fn works(alloc: Global, target: Option<TargetConfig>, capacity: usize, work: &Work) -> bool
     requires target { IfSome target IsTargetConfig }
     requires capacity { IsCapacity capacity }

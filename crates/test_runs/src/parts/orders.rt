@@ -5,7 +5,7 @@ ghost use Rattle.sw_graph.specs.Rows.{IsGraph};
 use std::alloc::Global;
 use sw_graph::{OneByOne, Order, RoundWorkers, add_to_row, empty_rows, order};
 
-// Adds the steps between members, each at the end of a row.
+/// Adds the steps between members, each at the end of a row.
 fn add_steps(rows: &mut [Vec<u16>], steps: &[(u16, u16)]) -> bool
     requires { IsGraph rows.old }
     ensures { result ≡ true → IsGraph rows.new }
@@ -22,7 +22,7 @@ fn add_steps(rows: &mut [Vec<u16>], steps: &[(u16, u16)]) -> bool
     true
 }
 
-// The members have these levels, or, as an error, this cycle is shown.
+/// The members have these levels, or, as an error, this cycle is shown.
 fn has_order<C: RoundWorkers>(
     workers: &C,
     alloc: Global,

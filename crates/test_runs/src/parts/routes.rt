@@ -55,7 +55,7 @@ pub(crate) fn agree(alloc: Global) -> bool {
 /// Ranges that have an address from 40 to 60.
 const TAKEN: &[(u8, u8)] = &[(60, 70), (32, 40), (50, 50), (32, 254)];
 
-// Of the ports that are named, the one with a link: that of a switch with a node at port 2.
+/// Of the ports that are named, the one with a link: that of a switch with a node at port 2.
 fn leaves_linked(alloc: Global) -> bool {
     let mut builder = Builder::new(alloc);
     let switch = builder.switch();

@@ -6,7 +6,7 @@ use std::io;
 use std::io::{Read, Write};
 use sw_text::{ReadError, WriteError, read_whole, write_whole};
 
-// Gives one byte a call, and fails at one call alone, the one after `before_fault` of them.
+/// Gives one byte a call, and fails at one call alone, the one after `before_fault` of them.
 #[derive(Drop)]
 struct FailingReader {
     before_fault: usize,
@@ -27,7 +27,7 @@ impl Read for FailingReader {
     }
 }
 
-// Takes one byte a call, and after `room` of them fails at one call, by an error or by taking none.
+/// Takes one byte a call, and after `room` of them fails at one call, by an error or by taking none.
 #[derive(Drop)]
 struct SlowWriter {
     taken: Vec<u8>,
@@ -98,7 +98,7 @@ pub(crate) fn are_begun(alloc: Global) -> bool {
                 room,
                 takes_none,
             };
-            let is_whole = write_whole(&mut writer, TEXT).is_ok();
+            let is_whole = write_whole(TEXT, &mut writer).is_ok();
             let wanted = (TEXT.len() <= room, &TEXT[..TEXT.len().min(room)]);
             if (is_whole, writer.taken.as_slice()) != wanted {
                 return false;

@@ -37,14 +37,14 @@ fn receive(cell: &mut Cell, input: Port, characters: &[NChar]) -> bool {
     true
 }
 
-// The character at the input's front goes to that output.
+/// The character at the input's front goes to that output.
 fn forwards(cell: &mut Cell, input: Port, output: Port, character: NChar) -> bool {
     cell.can_forward(input)
         && cell.front(input) == Some(character)
         && cell.forward(input) == (output, character)
 }
 
-// Port 2 has credit, and a packet to port 2 begins at each of the two. The output stays with that of port 1 until its end.
+/// Port 2 has credit, and a packet to port 2 begins at each of the two. The output stays with that of port 1 until its end.
 fn stays_with_a_packet(cell: &mut Cell, one: Port, two: Port) -> bool {
     if cell.credit(two) != 0 {
         return false;

@@ -28,12 +28,12 @@ returns g c =
       | in-None w ↦ holds_of_none ShowsDeadlockFree (network_of file) found (sym c.network.ensures ∙ ap (option_map (λ n. n.now)) w.in-None.is)
     ] in
     record {
-      ended = ends_in_lines IsDecideFinding decide_lines decide_status _ _ _ _ file found _ c.read_network_file-file.ensures holds c.tell_found-ended.ensures;
+      ended = ends_in_lines IsDecideFinding decide_lines decide_status _ _ _ _ file found _ c.read_network_file-file.ensures holds c.tell_found.ensures.told;
       deadlock_free = λ zero. accepted_written _ _ _ _ file found c.read_network_file-file.ensures shows
           (zero_found decide_status (λ _ d f. Says (decide_lines d f) (decide_status f)) (λ _ fault. FaultInLine fault)
           (Says (line (codes "fault A1 TooLong" ∷ [])) 3) (λ bytes d f text status says. says.1) (λ bytes fault text status says. says.1)
-          (λ text status says. says.1) memory_line _ _ file found _ c.tell_found-ended.ensures zero);
-      read = c.read_network_file-file.ensures;
-      found = holds;
-      told = c.tell_found-ended.ensures;
+          (λ text status says. says.1) memory_line _ _ file found _ c.tell_found.ensures.told zero);
+      read = rw c.tell_found.ensures.file c.read_network_file-file.ensures;
+      found = rw (c.tell_found.ensures.file, c.tell_found.ensures.found) holds;
+      told = rw (c.tell_found.ensures.file, c.tell_found.ensures.found) c.tell_found.ensures.told;
     }

@@ -17,8 +17,8 @@ returns g c =
       | in-None w ↦ holds_of_none Finds (network_of file) c.match-network.found (sym c.network.ensures ∙ ap (option_map (λ n. n.now)) w.in-None.is)
     ] in
     record {
-      ended = ends_by_file Finds _ _ _ _ _ _ _ _ file c.match-network.found _ c.read_network_file-file.ensures holds c.tell_found-ended.ensures;
-      read = c.read_network_file-file.ensures;
-      found = holds;
-      told = c.tell_found-ended.ensures;
+      ended = ends_by_file Finds _ _ _ _ _ _ _ _ file c.match-network.found _ c.read_network_file-file.ensures holds c.tell_found.ensures.told;
+      read = rw c.tell_found.ensures.file c.read_network_file-file.ensures;
+      found = rw (c.tell_found.ensures.file, c.tell_found.ensures.found) holds;
+      told = rw (c.tell_found.ensures.file, c.tell_found.ensures.found) c.tell_found.ensures.told;
     }

@@ -5,11 +5,11 @@ use Rattle.sw_args.proofs.Numbers.{counts}
 use Rattle.sw_args.proofs.Wanted.{of_rmap, of_run, of_witness, says}
 use Rattle.sw_args.proofs.matched.call_of.Goals as goal
 
-pub given-requires : goal.given-requires
-given-requires c = (of_run c.args.name.now (rows_of (found_of c.args.values.now)) c.in-run.is c.requires).0
+pub first_value-requires : goal.first_value-requires
+first_value-requires c = (of_run c.args.name.now (rows_of (found_of c.args.values.now)) c.in-run.is c.requires).0
 
-pub given-requires-in-run : goal.given-requires-in-run
-given-requires-in-run c = (of_run c.args.name.now (rows_of (found_of c.args.values.now)) c.in-run.is c.requires).1
+pub first_value-requires-in-run : goal.first_value-requires-in-run
+first_value-requires-in-run c = (of_run c.args.name.now (rows_of (found_of c.args.values.now)) c.in-run.is c.requires).1
 
 pub number_of-requires : goal.number_of-requires
 number_of-requires c = says most_workers _ (rows_of (found_of c.args.values.now)) (omega arith) (of_run c.args.name.now (rows_of (found_of c.args.values.now)) c.in-run.is c.requires).2
@@ -17,23 +17,23 @@ number_of-requires c = says most_workers _ (rows_of (found_of c.args.values.now)
 pub number_of-requires-in-run : goal.number_of-requires-in-run
 number_of-requires-in-run c = says most_steps _ (rows_of (found_of c.args.values.now)) (omega arith) (of_run c.args.name.now (rows_of (found_of c.args.values.now)) c.in-run.is c.requires).3
 
-pub given-requires-in-rmap : goal.given-requires-in-rmap
-given-requires-in-rmap c = (of_rmap c.args.name.now (rows_of (found_of c.args.values.now)) c.in-rmap.is c.requires).0
+pub first_value-requires-in-rmap : goal.first_value-requires-in-rmap
+first_value-requires-in-rmap c = (of_rmap c.args.name.now (rows_of (found_of c.args.values.now)) c.in-rmap.is c.requires).0
 
-pub given-requires-in-rmap-2 : goal.given-requires-in-rmap-2
-given-requires-in-rmap-2 c = (of_rmap c.args.name.now (rows_of (found_of c.args.values.now)) c.in-rmap.is c.requires).1
+pub first_value-requires-in-rmap-2 : goal.first_value-requires-in-rmap-2
+first_value-requires-in-rmap-2 c = (of_rmap c.args.name.now (rows_of (found_of c.args.values.now)) c.in-rmap.is c.requires).1
 
-pub given-requires-in-rmap-3 : goal.given-requires-in-rmap-3
-given-requires-in-rmap-3 c = (of_rmap c.args.name.now (rows_of (found_of c.args.values.now)) c.in-rmap.is c.requires).2
+pub first_value-requires-in-rmap-3 : goal.first_value-requires-in-rmap-3
+first_value-requires-in-rmap-3 c = (of_rmap c.args.name.now (rows_of (found_of c.args.values.now)) c.in-rmap.is c.requires).2
 
-pub given-requires-in-rmap-4 : goal.given-requires-in-rmap-4
-given-requires-in-rmap-4 c = (of_rmap c.args.name.now (rows_of (found_of c.args.values.now)) c.in-rmap.is c.requires).3
+pub first_value-requires-in-rmap-4 : goal.first_value-requires-in-rmap-4
+first_value-requires-in-rmap-4 c = (of_rmap c.args.name.now (rows_of (found_of c.args.values.now)) c.in-rmap.is c.requires).3
 
-pub given-requires-in-rmap-5 : goal.given-requires-in-rmap-5
-given-requires-in-rmap-5 c = (of_rmap c.args.name.now (rows_of (found_of c.args.values.now)) c.in-rmap.is c.requires).4
+pub first_value-requires-in-rmap-5 : goal.first_value-requires-in-rmap-5
+first_value-requires-in-rmap-5 c = (of_rmap c.args.name.now (rows_of (found_of c.args.values.now)) c.in-rmap.is c.requires).4
 
-pub given-requires-in-witness : goal.given-requires-in-witness
-given-requires-in-witness c = (of_witness c.args.name.now (rows_of (found_of c.args.values.now)) c.in-witness.is c.requires).0
+pub first_value-requires-in-witness : goal.first_value-requires-in-witness
+first_value-requires-in-witness c = (of_witness c.args.name.now (rows_of (found_of c.args.values.now)) c.in-witness.is c.requires).0
 
 pub number_of-requires-in-witness : goal.number_of-requires-in-witness
 number_of-requires-in-witness c = says most_tries _ (rows_of (found_of c.args.values.now)) (omega arith) (of_witness c.args.name.now (rows_of (found_of c.args.values.now)) c.in-witness.is c.requires).1
@@ -47,8 +47,8 @@ file_call-requires-clause-other c = let no = c.in_default in (no.not-audit, no.n
 pub returns-in-run : goal.returns-in-run
 returns-in-run c = (
   c.in-run.is,
-  c.given.ensures,
-  c.given-in-run.ensures,
+  c.first_value.ensures,
+  c.first_value-in-run.ensures,
   counts most_workers _ (rows_of (found_of c.args.values.now)) _ (of_run c.args.name.now (rows_of (found_of c.args.values.now)) c.in-run.is c.requires).2 c.number_of.ensures,
   counts most_steps _ (rows_of (found_of c.args.values.now)) _ (of_run c.args.name.now (rows_of (found_of c.args.values.now)) c.in-run.is c.requires).3 c.number_of-in-run.ensures,
   c.value_of-in-run.ensures,
@@ -59,11 +59,11 @@ returns-in-run c = (
 pub returns-in-rmap : goal.returns-in-rmap
 returns-in-rmap c = (
   c.in-rmap.is,
-  c.given-in-rmap.ensures,
-  c.given-in-rmap-2.ensures,
-  c.given-in-rmap-3.ensures,
-  c.given-in-rmap-4.ensures,
-  c.given-in-rmap-5.ensures,
+  c.first_value-in-rmap.ensures,
+  c.first_value-in-rmap-2.ensures,
+  c.first_value-in-rmap-3.ensures,
+  c.first_value-in-rmap-4.ensures,
+  c.first_value-in-rmap-5.ensures,
   c.is_set-in-rmap.ensures,
   c.value_of-in-rmap.ensures,
 )
@@ -71,7 +71,7 @@ returns-in-rmap c = (
 pub returns-in-witness : goal.returns-in-witness
 returns-in-witness c = (
   c.in-witness.is,
-  c.given-in-witness.ensures,
+  c.first_value-in-witness.ensures,
   counts most_tries _ (rows_of (found_of c.args.values.now)) _ (of_witness c.args.name.now (rows_of (found_of c.args.values.now)) c.in-witness.is c.requires).1 c.number_of-in-witness.ensures,
   counts most_seed _ (rows_of (found_of c.args.values.now)) _ (of_witness c.args.name.now (rows_of (found_of c.args.values.now)) c.in-witness.is c.requires).2 c.number_of-in-witness-2.ensures,
 )

@@ -11,6 +11,6 @@ returns-then-count-lt2 c =
 pub returns : goal.returns
 returns c =
     let told =
-    flows_ended c.args.network.now c.args.all c.args.flows.now c.named-named.result.now (string_bytes c.args.text.now) (string_bytes c.push_str-2.new.self) (string_bytes c.add_names.new.text)
-    c.if-count-lt2.false c.named-named.ensures.is c.in_ok-push_str.ensures.bytes c.in_ok-add_names.ensures in
+    flows_ended c.args.network.now c.args.all c.args.flows.now c.flows_to_name-named.result.now (string_bytes c.args.text.now) (string_bytes c.push_str-2.new.self) (string_bytes c.add_names.new.text)
+    c.if-count-lt2.false c.flows_to_name-named.ensures.is c.in_ok-push_str.ensures.bytes c.in_ok-add_names.ensures in
     on_ok_weaker c.add_more.result (λ is. is ∙ told) c.add_more.ensures

@@ -8,8 +8,8 @@ use Rattle.sw_file.proofs.links.link_end.Goals as goal
 pub returns-then-part-nodes-clause-gives : goal.returns-then-part-nodes-clause-gives
 returns-then-part-nodes-clause-gives c =
     let at_part = place_is c.args.link.now.section c.args.key (part_names c.args.builder.now) (table_view c.args.link.now.table.now) c.in_ok-name.name.now c.in-Some.part c.in_ok-name.ensures c.in-Some.ensures.part in
-    node_end_is c.args.link.now.section c.args.key c.args.port_key (length c.args.builder.now.nodes) (part_names c.args.builder.now) (table_view c.args.link.now.table.now) c.in-Some.part c.in_ok-absent.field-0
-    at_part (subst (λ n. c.in-Some.part < n) c.node_count-nodes.ensures.count c.if-part-nodes.true) c.in_ok-absent.ensures
+    node_end_is c.args.link.now.section c.args.key c.args.port_key (length c.args.builder.now.nodes) (part_names c.args.builder.now) (table_view c.args.link.now.table.now) c.in-Some.part c.in_ok-refuse_known.field-0
+    at_part (subst (λ n. c.in-Some.part < n) c.node_count-nodes.ensures.count c.if-part-nodes.true) c.in_ok-refuse_known.ensures
 
 pub overflow_cast-number : goal.overflow_cast-number
 overflow_cast-number c = fits_byte c.in_ok-number.number 31 c.in_ok-number.ensures.within.1 (leb-true 31 255 refl)

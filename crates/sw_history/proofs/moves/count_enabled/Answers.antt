@@ -2,7 +2,7 @@ use Rattle.std.proofs.Common.{ap, arith, false, length, subst, true, ◌*◌, �
 use Rattle.sw_history.proofs.Enabled.{none_below, one_more}
 use Rattle.sw_history.proofs.Ready.{add_none, all_counted}
 use Rattle.sw_history.proofs.moves.count_enabled.Goals as goal
-use Rattle.sw_history.proofs.moves.count_enabled.Goals.{else-enabled, then-enabled}
+use Rattle.sw_history.proofs.moves.count_enabled.Goals.{else-can_step, then-can_step}
 use Rattle.sw_history.specs.Enabled.{CanStepBelow}
 use Rattle.sw_net.specs.Asked.{CanStep}
 use Rattle.sw_config.specs.Entries.{Declaration}
@@ -17,11 +17,11 @@ loop-number-preserved g c =
     let count = c.loop-number.count in
     let below = c.loop-number.invariant.1 in
     let few = c.loop-number.invariant.0 in
-    let here = subst (λ k. CanStep v k c.enabled.result) c.new.ensures c.enabled.ensures in
+    let here = subst (λ k. CanStep v k c.can_step.result) c.new.ensures c.can_step.ensures in
     let same = add_none count in
-    elim c.if-enabled.branch [
-      | then-enabled w ↦ rw w.count-is (omega (arith, few), one_more v n count true (subst (CanStep v n) w.if-enabled.true here) below)
-      | else-enabled w ↦ rw w.count-is (omega (arith, few), subst (CanStepBelow v (n + 1)) same (one_more v n count false (subst (CanStep v n) w.if-enabled.false here) below))
+    elim c.if-can_step.branch [
+      | then-can_step w ↦ rw w.count-is (omega (arith, few), one_more v n count true (subst (CanStep v n) w.if-can_step.true here) below)
+      | else-can_step w ↦ rw w.count-is (omega (arith, few), subst (CanStepBelow v (n + 1)) same (one_more v n count false (subst (CanStep v n) w.if-can_step.false here) below))
     ]
 
 pub returns : goal.returns

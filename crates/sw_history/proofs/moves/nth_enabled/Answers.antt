@@ -2,7 +2,7 @@ use Rattle.std.proofs.Common.{ap, arith, false, length, subst, sym, true, ◌*�
 use Rattle.sw_history.proofs.Enabled.{none_below, one_more}
 use Rattle.sw_history.proofs.Ready.{add_none, all_counted}
 use Rattle.sw_history.proofs.moves.nth_enabled.Goals as goal
-use Rattle.sw_history.proofs.moves.nth_enabled.Goals.{else-enabled, then-enabled+else-before-index}
+use Rattle.sw_history.proofs.moves.nth_enabled.Goals.{else-can_step, then-can_step+else-before-index}
 use Rattle.sw_history.specs.Enabled.{CanStepBelow}
 use Rattle.sw_net.specs.Asked.{CanStep}
 use Rattle.sw_config.specs.Entries.{Declaration}
@@ -13,7 +13,7 @@ loop-number-init g c = (omega arith, omega arith, none_below c.args.net.now)
 pub returns-then-before-index-clause-nth : goal.returns-then-before-index-clause-nth
 returns-then-before-index-clause-nth g c =
     let v = c.args.net.now in
-    (subst (CanStep v c.new-end.result) c.if-enabled.true c.enabled.ensures, subst (λ k. CanStepBelow v k c.args.index) (sym c.new-end.ensures) (subst (CanStepBelow v c.loop-number.number) c.if-before-index.true c.loop-number.invariant.2))
+    (subst (CanStep v c.new-end.result) c.if-can_step.true c.can_step.ensures, subst (λ k. CanStepBelow v k c.args.index) (sym c.new-end.ensures) (subst (CanStepBelow v c.loop-number.number) c.if-before-index.true c.loop-number.invariant.2))
 
 pub loop-number-preserved : goal.loop-number-preserved
 loop-number-preserved g c =
@@ -23,11 +23,11 @@ loop-number-preserved g c =
     let below = c.loop-number.invariant.2 in
     let few = c.loop-number.invariant.0 in
     let small = c.loop-number.invariant.1 in
-    let here = subst (λ k. CanStep v k c.enabled.result) c.new-end.ensures c.enabled.ensures in
+    let here = subst (λ k. CanStep v k c.can_step.result) c.new-end.ensures c.can_step.ensures in
     let same = add_none before in
-    elim c.if-enabled.branch [
-      | then-enabled+else-before-index w ↦ let other = w.if-before-index.false in rw w.before-is (omega (arith, few, small, other), omega (arith, few, small, other), one_more v n before true (subst (CanStep v n) w.if-enabled.true here) below)
-      | else-enabled w ↦ rw w.before-is (omega (arith, few, small), omega (arith, few, small), subst (CanStepBelow v (n + 1)) same (one_more v n before false (subst (CanStep v n) w.if-enabled.false here) below))
+    elim c.if-can_step.branch [
+      | then-can_step+else-before-index w ↦ let other = w.if-before-index.false in rw w.before-is (omega (arith, few, small, other), omega (arith, few, small, other), one_more v n before true (subst (CanStep v n) w.if-can_step.true here) below)
+      | else-can_step w ↦ rw w.before-is (omega (arith, few, small), omega (arith, few, small), subst (CanStepBelow v (n + 1)) same (one_more v n before false (subst (CanStep v n) w.if-can_step.false here) below))
     ]
 
 pub returns-clause-nth : goal.returns-clause-nth

@@ -10,4 +10,4 @@ returns-in-len1 g c =
     let gives = g.S.Storage.gives c.args.storage.now in
     let keeps = g.S.Storage.keeps c.args.storage.now in
     of_only (λ (s : Bor (List ℕ)). s.now) (λ paths. IfOk c.answer_to_one.result (λ a. IsAuditAnswer options gives keeps paths (string_bytes a.text) a.status))
-    c.args.paths.now _ c.in-len1.len_at_least c.in-len1.len_below c.answer_to_one.ensures
+    c.args.paths.now _ c.in-len1.len_at_least c.in-len1.len_below c.answer_to_one.ensures.of_all

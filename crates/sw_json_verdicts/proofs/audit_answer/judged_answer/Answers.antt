@@ -28,10 +28,10 @@ returns g c =
     let paths = map (λ (s : Bor (List ℕ)). s.now) c.args.paths.now in
     let options = c.args.options.now in
     let gives = g.S.Storage.gives c.args.storage.now in
-    let keeps = g.S.Storage.keeps c.args.storage.now in (
-      findings_of paths c.args.all.items,
-      are_findings options gives keeps paths c.args.all.items c.requires,
-      c.in_ok-text.ensures,
-      c.worst-status.ensures ∙ ap (λ (all : List Judged). unwrap_or (reduce max (map (λ (j : Judged). j.status) all)) 0) c.deref.ensures.value
-          ∙ is_worst options gives keeps paths c.args.all.items c.requires,
-    )
+    let keeps = g.S.Storage.keeps c.args.storage.now in
+    let worst = c.worst_status-status.ensures ∙ ap (λ (all : List Judged). unwrap_or (reduce max (map (λ (j : Judged). j.status) all)) 0) c.deref.ensures.value
+    ∙ is_worst options gives keeps paths c.args.all.items c.requires in
+    record {
+      of_all = (findings_of paths c.args.all.items, are_findings options gives keeps paths c.args.all.items c.requires, (c.in_ok-text.ensures, worst));
+      said = (c.in_ok-text.ensures, worst);
+    }

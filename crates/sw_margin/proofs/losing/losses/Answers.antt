@@ -15,8 +15,8 @@ bounds-places-from c =
     let long = AllZip-long (λ f ps. IsPlaceList d f ps.items) (all_flows d) c.args.places.now c.requires in
     omega (arith, long, c.from-in-loop-number.ensures, c.loop-number-test.true, c.flows-number-end.ensures.count)
 
-pub needed-requires-clause-list : goal.needed-requires-clause-list
-needed-requires-clause-list c =
+pub needed_links-requires-clause-list : goal.needed_links-requires-clause-list
+needed_links-requires-clause-list c =
     let d = c.args.network.now in
     let n = c.loop-number.number in
     let listed = c.index-places-from.result in

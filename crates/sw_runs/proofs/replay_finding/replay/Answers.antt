@@ -9,8 +9,8 @@ use Rattle.sw_runs.specs.ReplayAnswers.{IsReplayFinding, IsReplayOf}
 use Rattle.sw_runs.proofs.replay_finding.replay.Goals.{in-Some, in-None}
 use Rattle.sw_runs.proofs.replay_finding.replay.Goals as goal
 
-pub tell_found-ended-requires-clause-fit : goal.tell_found-ended-requires-clause-fit
-tell_found-ended-requires-clause-fit g c =
+pub tell_found-requires-clause-fit : goal.tell_found-requires-clause-fit
+tell_found-requires-clause-fit g c =
     let file = c.read_two_files-file.result.0 in
     let found = c.match-network.found in
     let text = option_map (λ s. s.now) c.second_bytes-text.result in
@@ -33,4 +33,4 @@ returns-clause-ended g c =
     ] in
     ends_by_text IsReplayFinding (g.F.Form.tells c.args.form.now) (g.F.Form.faulty c.args.form.now) (g.F.Form.long c.args.form.now) _ _ _ _
     c.read_two_files-file.result.1 g.F.Form.memory _ _ text file found _ c.second_bytes-text.ensures c.read_two_files-file.ensures.files holds
-    c.tell_found-ended.ensures
+    c.tell_found.ensures.told

@@ -4,12 +4,12 @@ use Rattle.std.specs.List.{flat_map}
 use Rattle.sw_machine.specs.Begun.{beginning}
 use Rattle.sw_machine.specs.StepValues.{machine_step}
 use Rattle.sw_machine.specs.declared.step.Step.{Step}
-use Rattle.sw_summary.proofs.Lists.{beginnings_are, made_more}
+use Rattle.sw_summary.proofs.Lists.{beginnings_are, begins_nothing, made_more}
 use Rattle.sw_summary.proofs.begun.beginnings.Goals as goal
 
 pub loop-step-preserved-in_default : goal.loop-step-preserved-in_default
 loop-step-preserved-in_default c =
-    let none : [] ≡ beginning (machine_step c.step-item.result) = search rules in
+    let none = sym (begins_nothing c.step-item.result c.in_default.not-Begin) in
     made_more (λ (step : Step). beginning (machine_step step)) c.args.steps.now c.loop-step.step-index c.step-item.result c.loop-step.all.items [] c.loop-step.all.items c.loop-step-test.true c.step-item.is
     c.loop-step.invariant none (sym (append-nil c.loop-step.all.items))
 

@@ -10,12 +10,12 @@ loop-packet-init c = no_keys c.args.replies c.loop-n.n c.loop-n.all.items
 pub loop-packet-preserved-in_default : goal.loop-packet-preserved-in_default
 loop-packet-preserved-in_default c =
     key_more c.args.replies c.loop-n.n c.as_slice-packet-items.result.now c.loop-packet.packet-index c.packet-item.result None c.loop-n.all.items c.loop-packet.all.items c.loop-packet.all.items
-    c.loop-packet-test.true c.packet-item.is (sym c.in_default.is ∙ c.counted.ensures) c.loop-packet.invariant (sym (append-nil c.loop-packet.all.items))
+    c.loop-packet-test.true c.packet-item.is (sym c.in_default.is ∙ c.key_to_count.ensures) c.loop-packet.invariant (sym (append-nil c.loop-packet.all.items))
 
 pub loop-packet-preserved : goal.loop-packet-preserved
 loop-packet-preserved c =
     key_more c.args.replies c.loop-n.n c.as_slice-packet-items.result.now c.loop-packet.packet-index c.packet-item.result (Some c.in-Some.key) c.loop-n.all.items c.loop-packet.all.items
-    c.push.new.self.items c.loop-packet-test.true c.packet-item.is (sym c.in-Some.is ∙ c.counted.ensures) c.loop-packet.invariant c.in_ok-push.ensures.items
+    c.push.new.self.items c.loop-packet-test.true c.packet-item.is (sym c.in-Some.is ∙ c.key_to_count.ensures) c.loop-packet.invariant c.in_ok-push.ensures.items
 
 pub loop-n-preserved : goal.loop-n-preserved
 loop-n-preserved c =

@@ -11,7 +11,7 @@ returns-then-is_some c =
     let f = c.args.flow.now in
     let before = string_bytes c.args.text.now in
     let after = string_bytes c.write.new.self in
-    let of_them = c.loaded-of_them.result in
+    let of_them = c.count_loaded-of_them.result in
     let some : 0 < of_them = positive of_them c.if-of_them-eq0.false in
     let told : replies_told f c.args.answered ≡ Some c.args.answered = search rules in
     let line : List ℕ =
@@ -21,7 +21,7 @@ returns-then-is_some c =
     let written : IfOk c.write.result (λ u. after ≡ before ++ line) = search rules in
     IfOk-weaker c.write.result (λ u. after ≡ before ++ line) (λ u. after ≡ before ++ flow_text_where c.args.load.now c.args.begun c.args.number c.args.delivered c.args.answered f)
     (λ u added. told_flow before after c.name-name.result.now f.name c.args.begun _ of_them _ c.args.delivered (Some c.args.answered) _ some c.name-name.ensures refl
-    c.loaded-of_them.ensures told added)
+    c.count_loaded-of_them.ensures told added)
     written
 
 pub returns : goal.returns
@@ -29,7 +29,7 @@ returns c =
     let f = c.args.flow.now in
     let before = string_bytes c.args.text.now in
     let after = string_bytes c.write-2.new.self in
-    let of_them = c.loaded-of_them.result in
+    let of_them = c.count_loaded-of_them.result in
     let some : 0 < of_them = positive of_them c.if-of_them-eq0.false in
     let told : replies_told f c.args.answered ≡ None = search rules in
     let line : List ℕ =
@@ -39,5 +39,5 @@ returns c =
     let written : IfOk c.write-2.result (λ u. after ≡ before ++ line) = search rules in
     IfOk-weaker c.write-2.result (λ u. after ≡ before ++ line) (λ u. after ≡ before ++ flow_text_where c.args.load.now c.args.begun c.args.number c.args.delivered c.args.answered f)
     (λ u added. told_flow before after c.name-name.result.now f.name c.args.begun _ of_them _ c.args.delivered None _ some c.name-name.ensures refl
-    c.loaded-of_them.ensures told added)
+    c.count_loaded-of_them.ensures told added)
     written

@@ -12,14 +12,14 @@ overflow_add-index_mut c =
     c.behind-all.inside.count c.index_mut.result.now fits c.deref.ensures.value c.in-Ok.ensures.bound c.index_mut.ensures.value (ap (λ (t : KeyCountView). t.count) c.behind-all.view_is)
 
 pub loop-key-preserved : goal.loop-key-preserved
-loop-key-preserved c = elim c.match-place.branch [
+loop-key-preserved c = elim c.match-index_of.branch [
   | in-Ok w ↦
       counted_old c.deref-key-items.result.now c.loop-key.key-index c.key-item.result c.loop-key.all.items c.loop-key-test.true c.key-item.is c.loop-key.invariant c.deref.result.now
-      c.match-place.all.items w.in-Ok.i w.index_mut.result.now _ c.deref.ensures.value w.in-Ok.ensures.bound w.in-Ok.ensures.position w.index_mut.ensures.value
+      c.match-index_of.all.items w.in-Ok.i w.index_mut.result.now _ c.deref.ensures.value w.in-Ok.ensures.bound w.in-Ok.ensures.position w.index_mut.ensures.value
       (ap (λ (t : KeyCountView). record t { count = t.count + 1 }) w.behind-all.view_is) (ap (λ v. v.items) w.all-is)
   | in-Err+in_ok-insert-in-Err w ↦
       counted_new c.deref-key-items.result.now c.loop-key.key-index c.key-item.result c.loop-key.all.items c.loop-key-test.true c.key-item.is c.loop-key.invariant c.deref.result.now
-      c.match-place.all.items w.in-Err.i _ c.deref.ensures.value w.in-Err.ensures.bound w.in-Err.ensures.position c.key.view_is
+      c.match-index_of.all.items w.in-Err.i _ c.deref.ensures.value w.in-Err.ensures.bound w.in-Err.ensures.position c.key.view_is
       (ap (λ v. v.items) w.all-is ∙ w.in_ok-insert-in-Err.ensures.items)
 ]
 

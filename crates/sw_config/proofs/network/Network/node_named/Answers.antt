@@ -12,7 +12,7 @@ returns-in_default-clause-node c =
     let nodes : List (List ℕ) = map (λ (n : NodeEntry). n.name) c.self.inside.nodes.items in
     let switches : List (List ℕ) = map (λ (s : SwitchEntry). s.name) c.self.inside.switches.items in
     rw (← c.self.view_is)
-    (sym (position-none test nodes switches (ap (position test) (sym c.self.invariant.named) ∙ sym c.place_of.ensures.place ∙ c.in_default.is)))
+    (sym (position-none test nodes switches (ap (position test) (sym c.self.invariant.named) ∙ sym c.index_of.ensures.place ∙ c.in_default.is)))
 
 pub returns-then-place-len-clause-node : goal.returns-then-place-len-clause-node
 returns-then-place-len-clause-node c =

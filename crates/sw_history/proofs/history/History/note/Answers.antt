@@ -1,13 +1,17 @@
 use Rattle.std.proofs.Common.{Some, ap, arith, length, refl, subst, sym, ℕ, ◌<◌, ◌∙◌, ◌≡◌}
+use Rattle.std.proofs.lemmas.Bool.{false≢true}
 use Rattle.std.proofs.lemmas.Option.{slice_get_read}
 use Rattle.std.specs.Prelude.{IfSome, slice_get}
+use Rattle.sw_history.proofs.Adds.{no_beginner}
 use Rattle.sw_history.proofs.Counts.{few_begun}
 use Rattle.sw_history.proofs.Noting.{IsBeginning, begin_noted, read_below}
 use Rattle.sw_history.proofs.history.History.note.Goals as goal
 use Rattle.sw_history.specs.History.{HistoryView, IsKept}
-use Rattle.sw_history.specs.Noted.{senders_of}
 use Rattle.sw_load.specs.Load.{packet_count}
+use Rattle.sw_machine.specs.Model.{network_of}
 use Rattle.sw_machine.specs.StepValues.{machine_step}
+use Rattle.sw_machine.specs.Steps.{is_begin}
+use Rattle.sw_machine.specs.declared.step.Step.{Step}
 
 pub overflow_cast-result : goal.overflow_cast-result
 overflow_cast-result g c =
@@ -45,5 +49,7 @@ returns-in-Some-clause-sound g c =
     let is : IsBeginning now (machine_step c.args.step.now) c.in-Some.node c.index.result.now = begin_noted now c.in-Some.node c.index.result.now (kept.counted c.in-Some.node c.index.result.now at) (machine_step c.args.step.now) (sym c.in-Some.is ∙ c.requires.node) c.requires.next in
     (within, is.packet)
 
-pub returns-in-None-clause-sound : goal.returns-in-None-clause-sound
-returns-in-None-clause-sound g c = c.plain.ensures.sound (senders_of c.args.self.now)
+pub unreachable-requires : goal.unreachable-requires
+unreachable-requires g c =
+    let none = no_beginner (network_of c.args.self.now.declared) (machine_step c.args.step.now) (sym c.requires.node ∙ c.in-None.is) in
+    false≢true (sym none ∙ ap (λ (s : Step). is_begin (machine_step s)) c.in-Begin.is)

@@ -4,8 +4,8 @@ use Rattle.sw_journal.proofs.Opened.{account_first, kept_first, state_first}
 use Rattle.sw_journal.proofs.journal.Journal.new.Goals as goal
 use Rattle.sw_journal.specs.Record.{new_cells}
 
-pub opened-requires : goal.opened-requires
-opened-requires c = state_first c.in_ok-history.history c.net.result.now c.net.ensures.declared c.in_ok-history.ensures.steps c.net.ensures.state
+pub opening_of-requires : goal.opening_of-requires
+opening_of-requires c = state_first c.in_ok-history.history c.net.result.now c.net.ensures.declared c.in_ok-history.ensures.steps c.net.ensures.state
 
 pub invariant_of-journal : goal.invariant_of-journal
 invariant_of-journal c =

@@ -7,7 +7,7 @@ use Rattle.sw_config.specs.Entries.{Declaration}
 use Rattle.sw_flow.specs.Places.{ends_of}
 use Rattle.sw_machine.specs.Model.{network_of}
 use Rattle.sw_machine.specs.Network.{AtSwitch}
-use Rattle.sw_machine.specs.StepValues.{machine_step}
+use Rattle.sw_machine.specs.StepValues.{machine_move}
 use Rattle.sw_machine.specs.Steps.{Emit}
 use Rattle.sw_net.proofs.Making.{node_not_ready, node_ready, port_not_ready, port_ready}
 use Rattle.sw_net.proofs.Steps.{has_node, has_switch}
@@ -41,7 +41,7 @@ returns-in-Some g c =
     let inside = subst (IsIn (length v.declared.nodes) (length v.declared.switches)) c.in-Node.is c.requires.inside in
     node_ready v c.network-network.ensures.sound.valid c.args.end c.in-Node.n (subst (λ p. slice_get (ends_of v.declared) c.args.end ≡ Some p) c.in-Node.is c.requires.starts) c.requires.within c.node.result.now c.node.ensures inside
     c.network-network.result.now c.network-network.ensures.network c.self.inside.wires (ap (λ (k : NetView g.row.R.Denot g.row.A.Denot). k.between) c.self.view_is)
-    c.in-Some.first (machine_step c.node_step.result) c.in-Some.ensures c.node_step.ensures
+    c.in-Some.first (machine_move c.node_step.result) c.in-Some.ensures c.node_step.ensures
 
 pub returns-in-None : goal.returns-in-None
 returns-in-None g c =
@@ -72,7 +72,7 @@ pub returns-in-Some-first_possible : goal.returns-in-Some-first_possible
 returns-in-Some-first_possible g c =
     port_ready c.args.self.now c.args.end c.in-Switch.w c.switch.result.now c.switch.ensures
     c.network-network.result.now c.network-network.ensures.network c.self.inside.wires (ap (λ (k : NetView g.row.R.Denot g.row.A.Denot). k.between) c.self.view_is)
-    c.in-Some-first_possible.first (machine_step c.port_step.result) c.in-Some-first_possible.ensures c.port_step.ensures
+    c.in-Some-first_possible.first (machine_move c.port_step.result) c.in-Some-first_possible.ensures c.port_step.ensures
 
 pub returns-in-None-first_possible : goal.returns-in-None-first_possible
 returns-in-None-first_possible g c =

@@ -44,8 +44,8 @@ returns c =
     let here = command_here bytes (subst (λ n. 16 + n ≤ length bytes) at c.if-bytes-path.false) (eq-eqb _ _ c.if-bytes-ne-PROTOCOL.false)
     (sym (code_told bytes _ path c.crc.result at c.crc.ensures (take_rest bytes (4 + path))) ∙ eq-eqb _ _ c.if-crc-back.false)
     (ap (λ i. not (packet_type i == 0)) (sym c.from_byte-instruction.ensures) ∙ sym c.is_command.ensures ∙ c.if-not-is_command.false) in
-    rw c.from_byte-instruction.ensures (read_fields bytes c.kept.result.items _ path _ c.number.result c.number-2.result c.number-3.result
-    here at c.kept.ensures (omega arith)
+    rw c.from_byte-instruction.ensures (read_fields bytes c.keep.result.items _ path _ c.number.result c.number-2.result c.number-3.result
+    here at c.keep.ensures (omega arith)
     (take_rest bytes (4 + path)) c.number.ensures.value c.number-2.ensures.value c.number-3.ensures.value)
 
 pub invariant_of-result : goal.invariant_of-result
@@ -57,6 +57,6 @@ invariant_of-result c =
     let here = command_here bytes (subst (λ n. 16 + n ≤ length bytes) at c.if-bytes-path.false) (eq-eqb _ _ c.if-bytes-ne-PROTOCOL.false)
     (sym (code_told bytes _ path c.crc.result at c.crc.ensures (take_rest bytes from)) ∙ eq-eqb _ _ c.if-crc-back.false)
     (ap (λ i. not (packet_type i == 0)) (sym c.from_byte-instruction.ensures) ∙ sym c.is_command.ensures ∙ c.if-not-is_command.false) in
-    rw c.from_byte-instruction.ensures (fields_are_right bytes c.kept.result.items (take (length bytes - from) (drop from bytes)) path _ c.number.result c.number-2.result c.number-3.result
-    here at c.kept.ensures (omega arith)
+    rw c.from_byte-instruction.ensures (fields_are_right bytes c.keep.result.items (take (length bytes - from) (drop from bytes)) path _ c.number.result c.number-2.result c.number-3.result
+    here at c.keep.ensures (omega arith)
     c.number.ensures.fits c.number-2.ensures.fits c.number-3.ensures.fits)

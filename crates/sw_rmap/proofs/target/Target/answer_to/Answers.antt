@@ -19,8 +19,8 @@ answer_to-parts t memory c body end status found reply after status_is found_is 
 pub returns-clause-answer : goal.returns-clause-answer
 returns-clause-answer c =
     rw (← c.self.view_is) (
-    answer_to-parts c.self.inside.config c.self.inside.memory.items c.args.command.now c.args.body.now c.args.end c.status-status.result c.found-found.result.now _ _
-    c.status-status.ensures (rw c.deref.ensures.value at c.found-found.ensures.value) c.in_ok-reply.ensures
+    answer_to-parts c.self.inside.config c.self.inside.memory.items c.args.command.now c.args.body.now c.args.end c.status-status.result c.reply_data-found.result.now _ _
+    c.status-status.ensures (rw c.deref.ensures.value at c.reply_data-found.ensures.value) c.in_ok-reply.ensures
     (take_at _ _ _ (c.store_if_written.auto.memory ∙ c.deref_mut.ensures.len) ∙ rw c.deref_mut.ensures.value at c.store_if_written.ensures)
     )
 
@@ -33,8 +33,8 @@ invariant_of-self c = (
 pub store_if_written-requires-clause-memory : goal.store_if_written-requires-clause-memory
 store_if_written-requires-clause-memory c = ap length c.deref_mut.ensures.value ∙ c.self.invariant.1
 
-pub found-found-requires-clause-within : goal.found-found-requires-clause-within
-found-found-requires-clause-within c = in_window c.self.inside.config c.args.command.now c.args.body.now c.args.end c.status-status.result c.status-status.ensures
+pub reply_data-found-requires-clause-within : goal.reply_data-found-requires-clause-within
+reply_data-found-requires-clause-within c = in_window c.self.inside.config c.args.command.now c.args.body.now c.args.end c.status-status.result c.status-status.ensures
 
 pub store_if_written-requires-clause-within : goal.store_if_written-requires-clause-within
 store_if_written-requires-clause-within c = in_window c.self.inside.config c.args.command.now c.args.body.now c.args.end c.status-status.result c.status-status.ensures
@@ -42,5 +42,5 @@ store_if_written-requires-clause-within c = in_window c.self.inside.config c.arg
 pub store_if_written-requires-clause-whole : goal.store_if_written-requires-clause-whole
 store_if_written-requires-clause-whole c = whole_body c.self.inside.config c.args.command.now c.args.body.now c.args.end c.status-status.result c.status-status.ensures
 
-pub found-found-requires-clause-memory : goal.found-found-requires-clause-memory
-found-found-requires-clause-memory c = ap length c.deref.ensures.value ∙ c.self.invariant.1
+pub reply_data-found-requires-clause-memory : goal.reply_data-found-requires-clause-memory
+reply_data-found-requires-clause-memory c = ap length c.deref.ensures.value ∙ c.self.invariant.1

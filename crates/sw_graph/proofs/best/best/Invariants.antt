@@ -1,6 +1,0 @@
-use Rattle.sw_graph.specs.Rows.{Leads}
-use Rattle.sw_graph.proofs.Bettering.{Bettering}
-use Rattle.sw_graph.proofs.best.best.Given as goal
-
-abbrev pub invariant-loop-c : goal.invariant-loop-c
-invariant-loop-c l = Bettering (Leads l.rows) l.members l.c-index l.best
