@@ -20,7 +20,7 @@ import tempfile
 from kit import rt
 
 FUNCTION = re.compile(r"( *)(?:pub(?:\([a-z]+\))? |const |unsafe |extern \"C\" )*fn (\w+)")
-IMPL = re.compile(r"impl(?:<.*?>)? (?:([\w:]+)(?:<(.*)>)? for )?([\w:]+)")
+IMPL = re.compile(r"impl(?:<(.*?)>)? (?:([\w:]+)(?:<(.*)>)? for )?([\w:]+)")
 
 # A line that says where something is wrong.
 LOCATED = re.compile(r"(?:note: )?\S+:\d+:\d+:")
@@ -51,10 +51,11 @@ Variant = collections.namedtuple("Variant", "function copy edit")
 
 
 def owner_of(line):
-    """What stands before a method's name, by the first line of its impl: its type, and the trait with its types where it is one's."""
-    trait, types, owner = IMPL.match(line).groups()
+    """What stands before a method's name, by the first line of its impl: its type, and the trait with its types where it is one's, but for parameters."""
+    parameters, trait, types, owner = IMPL.match(line).groups()
     last = [it.split("::")[-1] for it in (owner, trait or "")]
-    return "".join([*last, *re.findall(r"\w+", re.sub(r"<.*?>|'\w+", "", types or ""))]) + "::"
+    own = re.findall(r"(?:^|, )(\w+)", re.sub(r"<.*?>", "", parameters or ""))
+    return "".join([*last, *[it for it in re.findall(r"\w+", re.sub(r"<.*?>|'\w+", "", types or "")) if it not in own]]) + "::"
 
 
 def module_of(path):
@@ -72,7 +73,7 @@ def functions_in(path, text):
     for number, line in enumerate(lines):
         if line and line[0] not in " }":
             impl = IMPL.match(line)
-            owner, is_own = owner_of(line) if impl else "", bool(impl) and not impl[1]
+            owner, is_own = owner_of(line) if impl else "", bool(impl) and not impl[2]
         head = FUNCTION.match(line)
         if not head:
             continue
