@@ -5,8 +5,6 @@ it writes the rows of tests/json.rows and tests/audit.rows anew instead, by a pr
 """
 import collections
 import glob
-import importlib.machinery
-import importlib.util
 import itertools
 import json
 import os
@@ -19,7 +17,7 @@ from random_network import random_network
 from second_json import SecondAnswers
 from second_lint import lint_texts
 
-from .shared import TOP, add_random, called, counted, numbers_of, read, write
+from .shared import TOP, add_random, called, counted, numbers_of, read, rows_tool, write
 
 ERRORS = re.compile(r"^!.*\n", re.M)
 
@@ -90,9 +88,7 @@ class Answers:
 
 def show(answers):
     """Writes the rows of the two files as they have to be."""
-    loader = importlib.machinery.SourceFileLoader("rows", f"{TOP}/tools/rows")
-    rows = importlib.util.module_from_spec(importlib.util.spec_from_loader("rows", loader))
-    loader.exec_module(rows)
+    rows = rows_tool()
     rows.fill(answers.folder, [])
 
     def anew(found):

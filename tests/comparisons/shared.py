@@ -1,5 +1,7 @@
 """What the comparisons share: calls of the program, networks to compare, and TOML texts of values."""
 import glob
+import importlib.machinery
+import importlib.util
 import json
 import os
 import random
@@ -30,6 +32,14 @@ def called(program, *words, folder=None):
 def samples(*patterns):
     """The sample networks, or those of these names below examples/."""
     return sorted(file for name in patterns or SAMPLES for file in glob.glob(f"{TOP}/examples/{name}", recursive=True))
+
+
+def rows_tool():
+    """tools/rows as a module: the rows of tests/, and the files that they name."""
+    loader = importlib.machinery.SourceFileLoader("rows", f"{TOP}/tools/rows")
+    rows = importlib.util.module_from_spec(importlib.util.spec_from_loader("rows", loader))
+    loader.exec_module(rows)
+    return rows
 
 
 def read(path):
