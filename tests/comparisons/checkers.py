@@ -1,13 +1,14 @@
 """check beside tools/check_certificate.py, in what they print and in their statuses
 
-Each network of examples/, and then random ones, each with a certificate and with damaged ones, and some network files damaged. Then a network whose
-certificate is so long that parts of it are read side by side, with damaged certificates. It tells where the files of each difference are kept, and then how
-often each answer came, with its status in front.
+Each network of examples/, and then random ones, each with a certificate and with damaged ones, and some network files damaged; the certificates that an audit
+of examples/ keeps, which both have to accept. Then a network whose certificate is so long that parts of it are read side by side, with damaged certificates. It
+tells where the files of each difference are kept, and then how often each answer came, with its status in front.
 """
 import collections
 import os
 import random
 import re
+import shutil
 import subprocess
 import tempfile
 
@@ -229,6 +230,10 @@ class Answers:
         ours = self.ran(CHECKER, *files) if as_script else answer(network.encode(), certificate.encode())
         self.note(files, self.ran(self.program, "check", *files), ours)
 
+    def differs(self, text):
+        self.differences += 1
+        print(text, flush=True)
+
     def note(self, files, theirs, ours):
         words = theirs[0].decode(errors="replace").split()
         depth = 3 if words[1:2] in (["C6"], ["F8"]) else 2
@@ -264,6 +269,25 @@ def compare_examples(answers, numbers):
     # a file that can't be read, as the network and as the certificate
     for files in ((f"{answers.folder}/none", f"{TOP}/examples/turn.cert"), (f"{TOP}/examples/turn.toml", answers.folder)):
         answers.note((), answers.ran(answers.program, "check", *files), answers.ran(CHECKER, *files))
+
+
+def compare_kept(answers):
+    """The certificates that an audit of the examples keeps: one of each network that it tells to be free, which both checkers accept, and no other."""
+    folder, paths = f"{answers.folder}/kept", samples()
+    os.mkdir(folder)
+    told = answers.ran(answers.program, "audit", "--certificates", folder, *paths)[0].decode().splitlines()
+    kept = {int(it.partition("-")[0]): f"{folder}/{it}" for it in os.listdir(folder)}
+    free = [number for number, line in enumerate(told, 1) if line.startswith("0 free ")]
+    if len(told) != len(paths) or not free or sorted(kept) != free:
+        answers.differs(f"audit tells that the networks {free} are free, and keeps certificates of {sorted(kept)}")
+    for number, file in kept.items():
+        files = paths[number - 1], file
+        ended = answers.ran(answers.program, "check", *files), answers.ran(CHECKER, *files)
+        answers.kinds["0 accepted, as it was kept"] += 1
+        if ended != ((b"accepted\n", 0),) * 2:
+            answers.differs(f"{' '.join(files)}: the certificate was kept, and swcheck {ended[0]}, check_certificate {ended[1]}")
+    if not answers.differences:
+        shutil.rmtree(folder)
 
 
 def compare_random(answers, numbers):
@@ -316,6 +340,7 @@ def add_words(parser):
 def compare(given):
     answers, numbers = Answers(given.program), numbers_of(given)
     compare_examples(answers, numbers)
+    compare_kept(answers)
     for _ in range(given.random):
         compare_random(answers, numbers)
     compare_long(answers, numbers, given.long)

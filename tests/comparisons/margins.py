@@ -76,12 +76,12 @@ class Margin:
     # ---- flows
 
     def answers(self):
-        """Each flow without a reply, its file with one, if there can be such a file, and whether the network stays free with it."""
+        """Each flow without a reply that goes one way, its file with one, if there can be such a file, and whether the network stays free with it."""
         found = []
         for number, flow in enumerate(self.sample.flows):
-            if flow["reply"]:
+            way, is_alone = self.way(flow)
+            if flow["reply"] or not is_alone:
                 continue
-            way = self.way(flow)
             edited = self.answered(number, way)
             by_waits = not has_cycle({*self.verdict.causes, *waits_back(way), *self.at_source(flow)})
             if edited and by_waits != (Sample(edited).verdict().status == 0):
@@ -95,13 +95,13 @@ class Margin:
         return [self.stall(source)] if network.limit(source) == network.slots.get(source, 1) else []
 
     def way(self, flow):
-        """The channels of the flow from its start on, each time by the least port that leads on."""
-        channels, deleted = [self.starts.index(("node", flow["source"]))], 0
+        """The channels of the flow from its start on, each time by the least port that leads on, and whether no other leads on."""
+        channels, deleted, is_alone = [self.starts.index(("node", flow["source"]))], 0, True
         while self.ends[channels[-1]][0] == "switch":
             following, is_deleted = self.verdict.look(self.ends[channels[-1]][1], flow["address"][deleted])
             channels.append(min(following, key=lambda c: self.starts[c][2]))
-            deleted += is_deleted
-        return channels
+            deleted, is_alone = deleted + is_deleted, is_alone and len({*following}) == 1
+        return channels, is_alone
 
     def answered(self, number, way):
         """The tables with the flow answered along its way, or none where no `reply` can say so, or where the limit of its node would be its limit too."""

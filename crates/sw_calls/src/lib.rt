@@ -8,7 +8,10 @@ mod hints;
 mod told;
 mod verdict_calls;
 
-pub use files::{check_files, decide_file, migrate_file, report_file, route_file, write_sample};
+pub use files::{
+    check_files, check_files_in_form, decide_file, migrate_file, report_file, route_file,
+    write_sample,
+};
 pub use given::{given_call, given_texts, given_words};
 pub use hints::{Hints, hints_of};
 pub use told::{no_hints, tell_refused, told_end};

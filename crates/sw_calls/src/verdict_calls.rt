@@ -7,6 +7,7 @@ use std::io::{self, Write};
 use std::rt::{Env, Files};
 use sw_app::VerdictWorkers;
 use sw_args::{Asked, Call};
+use sw_engine::SystemFiles;
 use sw_text::Ended;
 
 /// What is told of a call that the program does not have.
@@ -57,20 +58,26 @@ fn run_call<R: Files + Eprint + AllocGlobal, C: VerdictWorkers, W: Write>(
     call: Call<'_>,
     writer: &mut W,
 ) -> Ended {
+    let files = SystemFiles { host: rt };
+    let alloc = rt.alloc();
     match call {
         Call::Route {
             file,
             flow,
             json: false,
-        } => route_file(rt, file, flow, writer).into_ended(),
-        Call::Decide { file, json: false } => decide_file(rt, workers, file, writer).into_ended(),
-        Call::Report { file, json: false } => report_file(rt, workers, file, writer).into_ended(),
+        } => route_file(&files, alloc, file, flow, writer).into_ended(),
+        Call::Decide { file, json: false } => decide_file(
+            &files, workers, alloc, file, writer,
+        ).into_ended(),
+        Call::Report { file, json: false } => report_file(
+            &files, workers, alloc, file, writer,
+        ).into_ended(),
         Call::Check {
             file,
             certificate,
             json: false,
-        } => check_files(rt, workers, file, certificate, writer).into_ended(),
-        Call::Migrate { file } => migrate_file(rt, file, writer).ended,
+        } => check_files(&files, workers, alloc, file, certificate, writer).into_ended(),
+        Call::Migrate { file } => migrate_file(&files, alloc, file, writer).ended,
         Call::Init { name } => write_sample(rt, name, writer),
         _ => tell_refused(rt, OTHER_CALL),
     }

@@ -1,4 +1,6 @@
 pub mod Answered
 pub mod AnsweredTwo
 pub mod LineEnds
+pub mod Paths
+mod Trusted
 pub mod Zero

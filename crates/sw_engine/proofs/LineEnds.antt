@@ -10,6 +10,7 @@ use Rattle.sw_file.specs.Network.{network_text}
 use Rattle.sw_text.specs.declared.fault.TextFault.{TextFault}
 use Rattle.sw_engine.specs.Engines.{AnswersByOne, AnswersToNetworkFile, AnswersToOne, AnswersToRead, AnswersToTwoInForm, EndsByOne, EndsByTwo}
 use Rattle.sw_engine.specs.Files.{IsFileRead, network_of}
+use Rattle.sw_engine.specs.Paths.{AnswersByPaths, EndsByPaths, PathTexts}
 use Rattle.sw_engine.specs.Tellings.{Findings, HoldsOfFound}
 use Rattle.sw_engine.specs.declared.network_file.NetworkFile.{NetworkFile}
 use Rattle.sw_engine.proofs.Answered.{ends_by_file}
@@ -83,6 +84,22 @@ module _ {X : Type 0} (Finds : Option (List ℕ) → Declaration → X → Type 
   two_files_in_lines old new (Status n) (text, status, may, told) = (text, status, by_two text status may, told)
   two_files_in_lines old new WriteFailed (text, status, may, told) = (text, status, by_two text status may, told)
   two_files_in_lines old new ReadFailed kept = kept
+
+-- ---- two paths
+
+module _ {X : Type 0} (Finds : Option (List ℕ) → Declaration → X → Type 0) (lines : Declaration → X → List ℕ) (number : X → ℕ) (gives others : PathTexts) where
+  by_two_paths : (text : List ℕ) (status : ℕ) → AnswersByPaths gives others (two_in_lines Finds lines number) text status ⊎ Says memory_line 5 text status
+      → AnswersByPaths gives others (TwoFilesInLines Finds lines number) text status ⊎ Says memory_line 5 text status
+  by_two_paths text status (inl (one, other, gave, gave_also, answer)) =
+      inl (one, other, gave, gave_also, each_in_lines (Finds other) lines number one text status answer)
+  by_two_paths text status (inr memory) = inr memory
+
+  -- an engine that answers two paths so
+  pub two_paths_in_lines : (old new : Option (List ℕ)) (ended : Ended) → EndsByPaths gives others memory_line (two_in_lines Finds lines number) old new ended
+      → EndsByPaths gives others memory_line (TwoFilesInLines Finds lines number) old new ended
+  two_paths_in_lines old new (Status n) (text, status, may, told) = (text, status, by_two_paths text status may, told)
+  two_paths_in_lines old new WriteFailed (text, status, may, told) = (text, status, by_two_paths text status may, told)
+  two_paths_in_lines old new ReadFailed kept = kept
 
 -- ---- one answer
 

@@ -1,5 +1,5 @@
 //! Rows of numbers: how they are made, and a relation that is given by rows, as steps.
-ghost use Rattle.std.specs.Prelude.{◌≡◌, ◌<◌, ◌++◌, ◌∷◌, ℕ, All, IfOk, OnOk, [], if◌then◌else◌, length};
+ghost use Rattle.std.specs.Prelude.{◌≡◌, ◌<◌, ◌++◌, ◌∷◌, ℕ, All, IfOk, OnErr, OnOk, [], if◌then◌else◌, length};
 ghost use Rattle.sw_graph.specs.Reached.{IsListing, Reached};
 ghost use Rattle.sw_graph.specs.Reversing.{IsRowSet};
 ghost use Rattle.sw_graph.specs.Rows.{IsGraph, row};
@@ -36,7 +36,8 @@ pub fn add_to_row(
     number: u16,
 ) -> Result<(), AllocError>
     requires { place < length rows.old }
-    ensures { OnOk result (IsRowSet rows.old place (if is_there then row rows.old place ++ number ∷ [] else row rows.old place) rows.new) }
+    ensures added { OnOk result (IsRowSet rows.old place (if is_there then row rows.old place ++ number ∷ [] else row rows.old place) rows.new) }
+    ensures as_before { OnErr result (IsRowSet rows.old place (row rows.old place) rows.new) }
 {
     if is_there {
         rows[place].push(number)?;

@@ -1,5 +1,5 @@
 //! Lists of values.
-ghost use Rattle.std.specs.Prelude.{◌≡◌, ◌++◌, ◌∷◌, [], IfOk, IsOkAnd, List, OnOk, map, string_bytes};
+ghost use Rattle.std.specs.Prelude.{◌≡◌, ◌++◌, ◌∷◌, [], IfOk, IsOkAnd, List, OnErr, OnOk, map, string_bytes};
 ghost use Rattle.serde_json.specs.Data.{string};
 ghost use Rattle.serde_json.specs.View.{view};
 ghost use Rattle.sw_json.specs.PlaceValues.{flow_name_value};
@@ -18,7 +18,8 @@ pub fn add_value(
     value: Result<Value, AllocError>,
     values: &mut Vec<Value>,
 ) -> Result<(), AllocError>
-    ensures { OnOk result (IsOkAnd value (λ v. values.new.items ≡ values.old.items ++ v ∷ [])) }
+    ensures added { OnOk result (IsOkAnd value (λ v. values.new.items ≡ values.old.items ++ v ∷ [])) }
+    ensures as_before { OnErr result (values.new.items ≡ values.old.items) }
 {
     values.push(value?)?;
     Ok(())

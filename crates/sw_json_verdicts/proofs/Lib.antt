@@ -10,6 +10,7 @@ pub mod Pairs
 pub mod Plainly
 pub mod Wanted
 pub mod Zeros
+mod ZerosOfPaths
 pub mod Told
 pub mod FileNames
 pub mod Greatest

@@ -1,11 +1,12 @@
 -- What it says that a network is told as free, and what status 0 of an audit says.
 use Rattle.std.specs.Prelude.{◌≡◌, ℕ, ◌+◌, true, List, Ok, Some, codes, slice_get}
-use Rattle.sw_app.specs.ShownDeadlockFree.{IsShownDeadlockFree}
+use Rattle.sw_app.specs.ShownDeadlockFree.{AreShownDeadlockFree, IsShownDeadlockFree}
+use Rattle.sw_engine.specs.Paths.{PathTexts}
 use Rattle.sw_json_verdicts.specs.AuditAnswers.{AreFindings}
 use Rattle.sw_json_verdicts.specs.AuditTexts.{worst}
 use Rattle.sw_json_verdicts.specs.Findings.{Finding, IsFinding, IsStatus, IsVerdictEntry}
 use Rattle.sw_json_verdicts.specs.Names.{certificate_name}
-use Rattle.sw_json_verdicts.specs.Stores.{Giving, Keeping, whole}
+use Rattle.sw_json_verdicts.specs.Stores.{Giving, Keeping, gives_of_paths, keeps_in, path_in, whole}
 use Rattle.sw_json_verdicts.specs.declared.audit_options.AuditOptions.{AuditOptions}
 use Rattle.sw_cert.specs.Text.{Contents}
 use Rattle.sw_config.specs.Entries.{Declaration}
@@ -44,3 +45,18 @@ ZeroIsFree gives keeps =
     (options : AuditOptions) (paths : List (List ℕ)) (findings : List Finding) (i : ℕ) (path : List ℕ)
     → AreFindings options gives keeps paths findings → worst findings ≡ 0 → slice_get paths i ≡ Some path
     → (f : Finding) × (slice_get findings i ≡ Some f) × IsKeptFree options gives keeps (i + 1) path f
+
+-- The bytes that the path gives declare a network that never locks up, over every run, since a certificate is accepted for it; where certificates are
+-- kept in a folder, all of this one was put into the file of its name there.
+abbrev pub IsPathFree : AuditOptions → PathTexts → (List ℕ → List ℕ → Type 0) → List ℕ → ℕ → List ℕ → Type 0
+IsPathFree options gives keeps folder number path =
+    (bytes : List ℕ) × gives (Some bytes)
+    × ((certificate : List ℕ) × AreShownDeadlockFree bytes certificate
+    × (options.certificates ≡ true → keeps (path_in folder (certificate_name number path)) certificate))
+
+-- so it is of each path of an audit over a file system where the worst status is 0
+abbrev pub ZeroIsFreeOfPaths : (List ℕ → PathTexts) → (List ℕ → List ℕ → Type 0) → List ℕ → Type 0
+ZeroIsFreeOfPaths gives keeps folder =
+    (options : AuditOptions) (paths : List (List ℕ)) (findings : List Finding) (i : ℕ) (path : List ℕ)
+    → AreFindings options (gives_of_paths gives) (keeps_in keeps folder) paths findings → worst findings ≡ 0 → slice_get paths i ≡ Some path
+    → IsPathFree options (gives path) keeps folder (i + 1) path

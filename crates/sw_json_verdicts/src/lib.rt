@@ -9,6 +9,7 @@ pub mod audit_laws;
 mod audit_options;
 mod audit_texts;
 mod check_values;
+mod disk;
 mod findings;
 mod judged;
 pub mod laws;
@@ -23,6 +24,7 @@ mod verdict_values;
 
 pub use audit_engine::{audit, audit_one};
 pub use audit_options::AuditOptions;
+pub use disk::Disk;
 pub use stores::{AuditInput, Storage};
 pub use sw_json::Release;
 pub use verdict_values::VerdictValues;

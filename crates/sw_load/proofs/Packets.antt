@@ -16,7 +16,8 @@ use Rattle.sw_machine.specs.Begun.{Begun, length_with_reply}
 use Rattle.sw_machine.specs.Network.{Network, form}
 use Rattle.sw_machine.specs.Network as machine
 use Rattle.sw_machine.specs.Packets.{marker_of}
-use Rattle.sw_machine.specs.Model.{answered_to, network_of}
+use Rattle.sw_machine.specs.Model.{network_of}
+use Rattle.sw_machine.specs.Rmap.{answered_to}
 use Rattle.sw_machine.specs.Targets.{longest_reply}
 use Rattle.sw_config.specs.Entries.{Declaration, FlowEntry, all_flows, target_of}
 

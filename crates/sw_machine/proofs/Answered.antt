@@ -14,7 +14,7 @@ use Rattle.sw_machine.proofs.Balance.{count_append}
 use Rattle.sw_machine.proofs.Cuts.{cut_byte, cut_marker, cuts_are_equal}
 use Rattle.sw_machine.proofs.Lists.{put_here, put_there}
 use Rattle.sw_machine.proofs.Whole.{count_sent, zero_part}
-use Rattle.sw_machine.specs.Begun.{AsOften, Begins, Begun, IsReply, NoOftener, RunOf, is_answered_at, is_reply_at, sent_to}
+use Rattle.sw_machine.specs.Begun.{AsOften, Begins, Begun, IsReply, NoOftener, RunOf, is_answered, is_answered_at, is_reply_at, sent_to}
 use Rattle.sw_machine.specs.Network.{IsNetwork, Network}
 use Rattle.sw_rmap.specs.Owing.{length_pending, pending_with, PendingReply, reply_packet}
 use Rattle.sw_machine.specs.Packets.{IsCut, Packet, marker_of}
@@ -23,9 +23,6 @@ use Rattle.sw_machine.specs.State.{State, empty, put, reply_at}
 use Rattle.sw_machine.specs.Steps.{Accept, Arrive, Begin, Drop, Drops, Emit, Fct, FctIn, Forward, Grant, Leads, Reply, Spill, Step}
 
 module _ (net : Network) (ok : IsNetwork net) (n : ℕ) (ln : n < net.nodes) (test : List ℕ → Bool) where
-  abbrev is_answered : Packet → Bool
-  is_answered p = option_map_or test (net.reply_to n p.bytes) false
-
   abbrev passes : PendingReply → Bool
   passes r = test r.address
 
@@ -34,7 +31,7 @@ module _ (net : Network) (ok : IsNetwork net) (n : ℕ) (ln : n < net.nodes) (te
     packets : List Packet
     bytes : List ℕ
     cut : IsCut taken packets bytes
-    adds : begun + count_by passes pending ≡ count_by is_answered packets
+    adds : begun + count_by passes pending ≡ count_by (is_answered net n test) packets
 
   abbrev TallyAt : State → ℕ → Type 0
   TallyAt s k = Tally (s.taken n) (s.pending n) k
@@ -97,17 +94,17 @@ module _ (net : Network) (ok : IsNetwork net) (n : ℕ) (ln : n < net.nodes) (te
       sum_by_push (λ r. if passes r then 1 else 0) pending r
       ∙ ap (λ a. count_by passes pending + (if option_map_or test a false then 1 else 0)) e
 
-  ended : (s : State) (k : ℕ) (ps : List Packet) (bytes : List ℕ) (end : End) → IsCut (s.taken n) ps bytes → k + count_by passes (s.pending n) ≡ count_by is_answered ps → Tally (s.taken n ++ marker_of end ∷ []) (pending_with (s.pending n) (net.answer n (s.memory n) bytes end)) k
+  ended : (s : State) (k : ℕ) (ps : List Packet) (bytes : List ℕ) (end : End) → IsCut (s.taken n) ps bytes → k + count_by passes (s.pending n) ≡ count_by (is_answered net n test) ps → Tally (s.taken n ++ marker_of end ∷ []) (pending_with (s.pending n) (net.answer n (s.memory n) bytes end)) k
   ended s k ps bytes end cut adds =
       let p : Packet = record { bytes = bytes; end = end } in
-      let more = waits_more (s.pending n) (net.answer n (s.memory n) bytes end) (net.reply_to n bytes) (ok.reply_goes n (s.memory n) bytes end ln) in
-      let push = sum_by_push (λ p. if is_answered p then 1 else 0) ps p in
+      let more = waits_more (s.pending n) (net.answer n (s.memory n) bytes end) (net.reply_to n bytes) (ok.answers.reply_goes n (s.memory n) bytes end ln) in
+      let push = sum_by_push (λ p. if is_answered net n test p then 1 else 0) ps p in
       record { packets = ps ++ p ∷ []; bytes = []; cut = cut_marker (s.taken n) ps bytes end cut; adds = omega arith }
 
   accepted : (s : State) (k : ℕ) (ps : List Packet) (bytes : List ℕ) (first : NChar) → IsCut (s.taken n) ps bytes → TallyAt s k → Tally (s.taken n ++ first ∷ []) (pending_with (s.pending n) (reply_at net n (s.memory n) bytes first)) k
   accepted s k ps bytes (Data b) cut h = record { packets = h.packets; bytes = h.bytes ++ b ∷ []; cut = cut_byte (s.taken n) h.packets h.bytes b h.cut; adds = h.adds }
-  accepted s k ps bytes Eop cut h = ended s k ps bytes ByEop cut (h.adds ∙ ap (count_by is_answered) (cuts_are_equal (s.taken n) h.packets ps h.bytes bytes h.cut cut).0)
-  accepted s k ps bytes Eep cut h = ended s k ps bytes ByEep cut (h.adds ∙ ap (count_by is_answered) (cuts_are_equal (s.taken n) h.packets ps h.bytes bytes h.cut cut).0)
+  accepted s k ps bytes Eop cut h = ended s k ps bytes ByEop cut (h.adds ∙ ap (count_by (is_answered net n test)) (cuts_are_equal (s.taken n) h.packets ps h.bytes bytes h.cut cut).0)
+  accepted s k ps bytes Eep cut h = ended s k ps bytes ByEep cut (h.adds ∙ ap (count_by (is_answered net n test)) (cuts_are_equal (s.taken n) h.packets ps h.bytes bytes h.cut cut).0)
 
   accepted_at : (s : State) (k m : ℕ) (ps : List Packet) (bytes : List ℕ) (first : NChar) → IsCut (s.taken m) ps bytes → TallyAt s k → Tally (put s.taken m (s.taken m ++ first ∷ []) n) (put s.pending m (pending_with (s.pending m) (reply_at net m (s.memory m) bytes first)) n) k
   accepted_at s k m ps bytes first cut h = ⊎_elim
@@ -146,12 +143,19 @@ module _ (net : Network) (ok : IsNetwork net) (n : ℕ) (ln : n < net.nodes) (te
   tally_of : (steps : List Step) (begun : List Begun) (s : State) → RunOf net (empty net) steps begun s → TallyAt s (0 + count_by (is_reply_at net n test) begun)
   tally_of steps begun s r = run_tally steps (empty net) begun s 0 r (record { packets = []; bytes = []; cut = refl; adds = refl })
 
-  pub replies_at_most : (steps : List Step) (begun : List Begun) (s : State) → RunOf net (empty net) steps begun s → ((ps : List Packet) → CameOut s n ps → NoOftener ps (sent_to net n begun)) → count_by (is_reply_at net n test) begun ≤ count_by (is_answered_at net n test) begun
-  replies_at_most steps begun s r whole =
+  pub replies_at_most : (steps : List Step) (begun : List Begun) (s : State) → RunOf net (empty net) steps begun s → (came : List Packet) → CameOut s n came → count_by (is_reply_at net n test) begun ≤ count_by (is_answered net n test) came
+  replies_at_most steps begun s r came out =
       let t = tally_of steps begun s r in
       let adds = t.adds in
-      let came = whole t.packets (t.bytes, t.cut) is_answered in
-      let sent = count_sent net n is_answered begun in
+      let same = ap (count_by (is_answered net n test)) (cuts_are_equal (s.taken n) t.packets came t.bytes out.0 t.cut out.1).0 in
+      omega arith
+
+  pub commands_at_least : (steps : List Step) (begun : List Begun) (s : State) → RunOf net (empty net) steps begun s → ((ps : List Packet) → CameOut s n ps → NoOftener ps (sent_to net n begun)) → count_by (is_reply_at net n test) begun ≤ count_by (is_answered_at net n test) begun
+  commands_at_least steps begun s r whole =
+      let t = tally_of steps begun s r in
+      let adds = t.adds in
+      let came = whole t.packets (t.bytes, t.cut) (is_answered net n test) in
+      let sent = count_sent net n (is_answered net n test) begun in
       omega arith
 
   pub no_pending : (pending : List PendingReply) → length_pending pending ≡ 0 → pending ≡ []
@@ -165,8 +169,8 @@ module _ (net : Network) (ok : IsNetwork net) (n : ℕ) (ln : n < net.nodes) (te
   replies_exactly steps begun s r none whole =
       let t = tally_of steps begun s r in
       let adds = t.adds in
-      let came = whole t.packets (t.bytes, t.cut) is_answered in
-      let sent = count_sent net n is_answered begun in
+      let came = whole t.packets (t.bytes, t.cut) (is_answered net n test) in
+      let sent = count_sent net n (is_answered net n test) begun in
       let z = zero_part net.nodes (λ n. length (s.to_send n) + length_pending (s.pending n)) n ln (omega arith) in
       let nothing = ap (count_by passes) (no_pending (s.pending n) (omega arith)) in
       omega arith

@@ -15,7 +15,7 @@ use Rattle.sw_rmap.specs.Answers.{status_of, is_success, is_refused, found_by, a
 use Rattle.sw_rmap.proofs.Answering.{answers_by_the_way_back, replies_get_no_reply}
 use Rattle.sw_rmap.specs.Owing.{PendingReply}
 use Rattle.sw_rmap.specs.Targets.{answer_of, longest_reply, parted}
-use Rattle.sw_machine.specs.Model.{answered_to}
+use Rattle.sw_machine.specs.Rmap.{answered_to}
 
 -- ---- where replies go
 

@@ -11,11 +11,12 @@ use Rattle.sw_flow.specs.Limits.{is_limited}
 use Rattle.sw_flow.specs.Valid.{IsNode}
 use Rattle.sw_flow.proofs.Flows.{All-at}
 use Rattle.sw_flow.proofs.FlowLaws.{are_replies}
-use Rattle.sw_machine.specs.Network.{IsReplyFlow, left_bytes}
+use Rattle.sw_machine.specs.Network.{AnswersFit, IsReplyFlow, Protocol, left_bytes}
 use Rattle.sw_rmap.specs.Owing.{PendingReply}
 use Rattle.sw_rmap.specs.Targets.{answer_of, slots_of}
-use Rattle.sw_machine.specs.Model.{network_of, answered_to}
-use Rattle.sw_machine.specs.ModelLaws.{DeclaredNetworksAreNetworks}
+use Rattle.sw_machine.specs.Model.{network_by, network_of}
+use Rattle.sw_machine.specs.Rmap.{answered_to, rmap}
+use Rattle.sw_machine.specs.ModelLaws.{DeclaredNetworksAreNetworks, NetworksByProtocolsAreNetworks}
 use Rattle.sw_machine.proofs.Answering as replies
 use Rattle.sw_machine.proofs.Flows as flows
 use Rattle.sw_machine.proofs.Topology as topology
@@ -30,15 +31,13 @@ slot nodes n all lt =
     let here = some_at nodes n lt in
     rw here.1 (some_slot here.0.target (All-at IsNode nodes n here.0 here.1 all).target)
 
-reply_flow : (d : Declaration) (i j : ℕ) → (flow_at d i).reply ≡ Some j → IsReplyFlow (network_of d) i j
-unfolding network_of
-reply_flow d i j has =
+reply_flow : (protocol : Protocol) (d : Declaration) (i j : ℕ) → (flow_at d i).reply ≡ Some j → IsReplyFlow (network_by protocol d) i j
+reply_flow protocol d i j has =
     let is = flows.reply_flow_is d i j has in
     record { in_flows = is.in_flows; after_declared = is.after_declared; from = is.from; to = is.to; left = is.left; unanswered = is.unanswered }
 
 replies_end : (d : Declaration) (i j n : ℕ) (memory bytes : List ℕ) (r : PendingReply) (end : End) → (flow_at d i).reply ≡ Some j → answer_of (target_of d.nodes n) memory bytes end ≡ Some r
-    → r.address ≡ (flow_at d j).address → answered_to (target_of d.nodes (flow_at d j).to) (left_bytes (network_of d) j r.cargo) ≡ None
-unfolding network_of
+    → r.address ≡ (flow_at d j).address → answered_to (target_of d.nodes (flow_at d j).to) (left_bytes (network_by (rmap d) d) j r.cargo) ≡ None
 replies_end d i j n memory bytes r end has e to =
     let is = flows.reply_flow_is d i j has in
     let o = target_of d.nodes (flow_at d j).to in
@@ -60,9 +59,9 @@ limited_flow d i is = ⊎_elim (λ lt. lt) (λ ge. absurd (later (slice_get (all
         let none : is_limited d.nodes f ≡ false = rw reply.same refl in
         cc
 
-pub are_networks : DeclaredNetworksAreNetworks
-unfolding network_of
-are_networks d valid =
+-- whatever protocol the nodes speak, as long as what they answer fits
+pub are_networks_by : NetworksByProtocolsAreNetworks
+are_networks_by protocol d valid answers =
     let w = wiring_of d in
     record {
       room = λ c lt. topology.room d.links c valid.links lt;
@@ -74,11 +73,20 @@ are_networks d valid =
       look_starts = λ s h c. topology.look_starts w valid.sound s (look_at d.switches s h) c;
       flows_declared = more_flows d;
       flow_ends = flows.flow_ends d valid;
-      reply_flow = λ i j lt. reply_flow d i j;
+      reply_flow = λ i j lt. reply_flow protocol d i j;
       no_flow = flows.no_flow d;
       limited_flow = limited_flow d;
       slot = λ n. slot d.nodes n valid.nodes;
-      reply_goes = λ n memory bytes end lt. replies.reply_goes (target_of d.nodes n) memory bytes end;
-      reply_length = λ n memory bytes r end lt. replies.reply_length (target_of d.nodes n) memory bytes r end;
-      replies_end = λ i j n memory bytes r end lt inside has. replies_end d i j n memory bytes r end has;
+      answers = answers;
     }
+
+rmap_fits : (d : Declaration) → AnswersFit (network_by (rmap d) d)
+rmap_fits d = record {
+  reply_goes = λ n memory bytes end lt. replies.reply_goes (target_of d.nodes n) memory bytes end;
+  reply_length = λ n memory bytes r end lt. replies.reply_length (target_of d.nodes n) memory bytes r end;
+  replies_end = λ i j n memory bytes r end lt inside has. replies_end d i j n memory bytes r end has;
+}
+
+pub are_networks : DeclaredNetworksAreNetworks
+unfolding network_of
+are_networks d valid = are_networks_by (rmap d) d valid (rmap_fits d)

@@ -9,7 +9,8 @@ use Rattle.sw_flow.proofs.FlowLaws.{follow_in_order}
 use Rattle.sw_machine.specs.DeclaredPackets.{IsCommandIfLimited, IsDeclaredPacket, IsRightWay, reply_address, reply_from}
 use Rattle.sw_machine.specs.DeclaredPackets as file
 use Rattle.sw_machine.specs.Network.{AnsweredBy, IsDeclared, left_bytes}
-use Rattle.sw_machine.specs.Model.{answered_to, network_of, reply_number}
+use Rattle.sw_machine.specs.Model.{network_of, reply_number}
+use Rattle.sw_machine.specs.Rmap.{answered_to}
 use Rattle.sw_machine.proofs.Flows.{flow_at, some_at, slice_get-append_left}
 
 -- what a node answers

@@ -2,7 +2,7 @@
 use Rattle.std.proofs.Common.{List, [], arith, subst, ℕ, ⊎_elim, ◌++◌, ◌<◌, ◌∷◌}
 use Rattle.std.proofs.lemmas.Bool.{cases_lt}
 use Rattle.std.proofs.lemmas.List.Sums.{sum_by-append}
-use Rattle.sw_machine.proofs.Answered.{replies_at_most, replies_exactly}
+use Rattle.sw_machine.proofs.Answered.{commands_at_least, replies_at_most, replies_exactly}
 use Rattle.sw_machine.proofs.Bound.{is_bounded}
 use Rattle.sw_machine.proofs.Load.{is_bounded_by_load}
 use Rattle.sw_machine.proofs.RunLists.{all_moves, cost, run_of, run_of_append}
@@ -10,6 +10,7 @@ use Rattle.sw_machine.proofs.Ghost.{InputIs}
 use Rattle.sw_machine.proofs.Limits.{all_are_kept, have_slots, keeps_more}
 use Rattle.sw_machine.proofs.Runs.{empty_inv, goes_on_where, never_drops, none, reached_inv, run_begins}
 use Rattle.sw_machine.proofs.Whole.{all_comes_out, comes_out_whole}
+use Rattle.sw_machine.specs.Begun.{NoMoreRepliesThanCommands}
 use Rattle.sw_machine.specs.Certificate.{Certificate, IsAccepted, IsListed, number}
 use Rattle.sw_machine.specs.DeadlockFreedom.{AlwaysGoesOnWithinLimits, EndsEmptyWithinLimits, IsDeadlockFree, IsDeadlockFreeWithinLimits, IsFree, NothingIsDropped, QuietIsEmptyWithinLimits}
 use Rattle.sw_machine.specs.Limits.{HasNoLimits}
@@ -62,6 +63,9 @@ module _ (net : Network) (cert : Certificate) (ok : IsNetwork net) (acc : IsAcce
         λ spill. let h = spill.1 in subst (InputIs net cert (kept.0).rest (kept.0).coming c) h.spilling ((kept.1).inputs c h.in_net),
       )
 
+  pub no_more_replies : NoMoreRepliesThanCommands net
+  no_more_replies steps begun s r n ln test = commands_at_least net ok n ln test steps begun s r (λ ps out. comes_out_whole net cert ok acc steps begun s r n ln ps out)
+
   pub is_deadlock_free_within_limits : IsDeadlockFreeWithinLimits net cert
   is_deadlock_free_within_limits = record {
     well_routed = λ i lt c k p. acc.faultless i c k lt (listed i c k lt p);
@@ -74,11 +78,11 @@ module _ (net : Network) (cert : Certificate) (ok : IsNetwork net) (acc : IsAcce
     each_run_is_counted = λ steps s r. run_begins net cert ok acc steps (empty net) (none net cert ok acc) s r (empty_inv net cert ok acc);
     comes_out_whole = comes_out_whole net cert ok acc;
     all_comes_out = all_comes_out net cert ok acc;
-    replies_are_asked = λ steps begun s r n ln test. replies_at_most net ok n ln test steps begun s r (λ ps out. comes_out_whole net cert ok acc steps begun s r n ln ps out);
+    replies_are_asked = λ steps begun s r n ln test. replies_at_most net ok n ln test steps begun s r;
     all_is_answered = λ steps begun s r none n ln test. replies_exactly net ok n ln test steps begun s r none (λ ps out. all_comes_out net cert ok acc steps begun s r none n ln ps out);
     only_asked_owe = λ s r n ln owes. let k = reached_inv net cert ok acc s r in (k.1.nodes n ln).asked owes;
     bounded = is_bounded net cert ok acc;
-    bounded_by_load = is_bounded_by_load net cert ok acc (λ begun steps s r n ln test. replies_at_most net ok n ln test steps begun s r (λ ps out. comes_out_whole net cert ok acc steps begun s r n ln ps out));
+    bounded_by_load = is_bounded_by_load net cert ok acc (λ begun steps s r. no_more_replies steps begun s r);
     ends_empty = ends;
   }
 

@@ -1,15 +1,18 @@
--- Runs that keep the limits on unanswered commands, and lead to a state that is locked up, found by trying their steps.
+-- Runs under a guard that keep the limits on unanswered commands, and lead to a state that is locked up under it, found by trying their steps.
 use Rattle.std.proofs.Common.{Bool, List, None, Option, Some, [], ap, append-nil, append_assoc, arith, false, ltb-true, nat_le, nat_lt, refl, subst, sym, true, ℕ, ◌++◌, ◌<◌, ◌∙◌, ◌∷◌, ◌≡◌, ◌≤◌}
-use Rattle.std.proofs.lemmas.Bool.{agree_below, agree_below_at, and_parts, leb-true}
+use Rattle.std.proofs.lemmas.Bool.{agree_below, agree_below_at, and_from, and_parts, leb-true}
 use Rattle.std.specs.Option.{option_map_or}
 use Rattle.std.specs.Prelude.{is_some, not, ◌&&◌}
 use Rattle.sw_char.specs.declared.nchar.End.{End}
 use Rattle.sw_machine.proofs.Cuts.{cons_tail, cut_of, cuts_are_equal, no_cons}
+use Rattle.sw_machine.proofs.Stalling.{runs_under_are_runs}
 use Rattle.sw_machine.proofs.Tries.{tried, tries}
 use Rattle.sw_machine.specs.LimitSamples.{LocksUp}
 use Rattle.sw_machine.specs.Limits.{IsWithinLimit, unanswered}
 use Rattle.sw_machine.specs.Network.{IsNetwork, Network}
-use Rattle.sw_machine.specs.Runs.{IsLockedUp, IsQuiet, Run, undelivered}
+use Rattle.sw_machine.specs.Runs.{Run, undelivered}
+use Rattle.sw_machine.specs.Stalling.{IsLockedUpUnder, IsQuietUnder, RunUnder}
+use Rattle.sw_machine.specs.StallingSamples.{LocksUpUnder}
 use Rattle.sw_machine.specs.State.{State, empty}
 use Rattle.sw_machine.specs.Steps.{Accept, Arrive, Begin, Drop, Emit, Fct, FctIn, Forward, Grant, IsPossible, Leads, Reply, Spill, Step}
 use Rattle.sw_machine.specs.Tried.{try_step}
@@ -48,24 +51,36 @@ module _ (net : Network) where
       sym (ap (is_within before s n) is) ∙ passes (λ n. is_within before s n (net.limit n)) net.nodes all n lt in
       subst (λ ps. unanswered net n before ps s ≤ limit) same (leb-true (unanswered net n before k.0 s) limit fits)
 
-  -- whether the step is not possible
+module _ (net : Network) (meets : State → Step → Bool) where
+  -- the guard of this test
+  abbrev Meets : State → Step → Type 0
+  Meets s step = meets s step ≡ true
+
+  -- whether the step does not meet the guard, or is not possible
   abbrev fails : State → Step → Bool
-  fails s step = not (is_some (try_step net s step))
+  fails s step = not (meets s step && is_some (try_step net s step))
 
-  impossible : (s : State) (step : Step) → fails s step ≡ true → IsPossible net s step → ⊥
-  impossible s step e p = let no : false ≡ true = sym (ap (λ o. not (is_some o)) (tries net s step p.0 p.1)) ∙ e in cc
+  -- a step that meets the guard and is possible
+  abbrev IsDone : State → Step → Type 0
+  IsDone s step = Meets s step × IsPossible net s step
 
-  -- whether no step of this kind is possible at the numbers below n
+  impossible : (s : State) (step : Step) → fails s step ≡ true → IsDone s step → ⊥
+  impossible s step e p =
+      let both : (meets s step && is_some (try_step net s step)) ≡ true = and_from (meets s step) (is_some (try_step net s step)) p.0 (ap is_some (tries net s step p.1.0 p.1.1)) in
+      let no : false ≡ true = sym (ap not both) ∙ e in
+      cc
+
+  -- whether no step of this kind meets the guard and is possible at the numbers below n
   abbrev all_fail : State → (ℕ → Step) → ℕ → Bool
   all_fail s kind n = all_below (λ k. fails s (kind k)) n
 
-  rests : (s : State) (kind : ℕ → Step) (n : ℕ) → all_fail s kind n ≡ true → (k : ℕ) → k < n → IsPossible net s (kind k) → ⊥
+  rests : (s : State) (kind : ℕ → Step) (n : ℕ) → all_fail s kind n ≡ true → (k : ℕ) → k < n → IsDone s (kind k) → ⊥
   rests s kind n all k lt = impossible s (kind k) (passes (λ k. fails s (kind k)) n all k lt)
 
   abbrev no_grant : State → ℕ → Bool
   no_grant s c = all_fail s (λ d. Grant d c) net.channels
 
-  -- whether no step other than a beginning is possible
+  -- whether no step other than a beginning meets the guard and is possible
   abbrev channels_rest : State → Bool
   channels_rest s =
       all_fail s Fct net.channels && (all_fail s FctIn net.channels && (all_fail s Arrive net.channels && (all_fail s Drop net.channels
@@ -74,7 +89,7 @@ module _ (net : Network) where
   abbrev nodes_rest : State → Bool
   nodes_rest s = all_fail s Emit net.nodes && (all_fail s Accept net.nodes && all_fail s Reply net.nodes)
 
-  -- no step of any kind but a beginning is possible
+  -- no step of any kind but a beginning meets the guard and is possible
   record Rests (s : State) : Type 0 where
     fct : all_fail s Fct net.channels ≡ true
     fct_in : all_fail s FctIn net.channels ≡ true
@@ -110,44 +125,44 @@ module _ (net : Network) where
         reply = accept.1;
       }
 
-  quiet : IsNetwork net → (s : State) → Rests s → IsQuiet net s
-  quiet ok s r (Fct c) other p = rests s Fct net.channels r.fct c p.1.in_net p
-  quiet ok s r (FctIn c) other p = rests s FctIn net.channels r.fct_in c p.1.in_net p
-  quiet ok s r (Arrive c) other p = rests s Arrive net.channels r.arrive c p.1.in_net p
-  quiet ok s r (Grant d c) other p =
-      rests s (λ d. Grant d c) net.channels (passes (no_grant s) net.channels r.grant c p.1.in_net) d (ok.look_starts p.1.switch p.1.h d p.1.named).0 p
-  quiet ok s r (Drop c) other p = rests s Drop net.channels r.dropped c p.1.in_net p
-  quiet ok s r (Forward c) other p = rests s Forward net.channels r.forward c p.1.in_net p
-  quiet ok s r (Spill c) other p = rests s Spill net.channels r.spill c p.1.in_net p
-  quiet ok s r (Begin f cargo end) other p = absurd (cc)
-  quiet ok s r (Emit n) other p = rests s Emit net.nodes r.emit n p.1.in_net p
-  quiet ok s r (Accept n) other p = rests s Accept net.nodes r.accept n p.1.in_net p
-  quiet ok s r (Reply n) other p = rests s Reply net.nodes r.reply n p.1.in_net p
+  quiet : IsNetwork net → (s : State) → Rests s → IsQuietUnder Meets net s
+  quiet ok s r (Fct c) other m p = rests s Fct net.channels r.fct c p.1.in_net (m, p)
+  quiet ok s r (FctIn c) other m p = rests s FctIn net.channels r.fct_in c p.1.in_net (m, p)
+  quiet ok s r (Arrive c) other m p = rests s Arrive net.channels r.arrive c p.1.in_net (m, p)
+  quiet ok s r (Grant d c) other m p =
+      rests s (λ d. Grant d c) net.channels (passes (no_grant s) net.channels r.grant c p.1.in_net) d (ok.look_starts p.1.switch p.1.h d p.1.named).0 (m, p)
+  quiet ok s r (Drop c) other m p = rests s Drop net.channels r.dropped c p.1.in_net (m, p)
+  quiet ok s r (Forward c) other m p = rests s Forward net.channels r.forward c p.1.in_net (m, p)
+  quiet ok s r (Spill c) other m p = rests s Spill net.channels r.spill c p.1.in_net (m, p)
+  quiet ok s r (Begin f cargo end) other m p = absurd (cc)
+  quiet ok s r (Emit n) other m p = rests s Emit net.nodes r.emit n p.1.in_net (m, p)
+  quiet ok s r (Accept n) other m p = rests s Accept net.nodes r.accept n p.1.in_net (m, p)
+  quiet ok s r (Reply n) other m p = rests s Reply net.nodes r.reply n p.1.in_net (m, p)
 
-  -- whether these steps, behind the ones before, are possible one after another, keep the limits, and lead to a state that is locked up
+  -- whether these steps, behind the ones before, meet the guard, are possible one after another, keep the limits, and lead to a state that is locked up
   abbrev locks : List Step → List Step → State → Bool
-  locks before [] s = are_within before s && (channels_rest s && (nodes_rest s && nat_lt 0 (undelivered net s)))
-  locks before (step ∷ steps) s = are_within before s && option_map_or (λ t. locks (before ++ step ∷ []) steps t) (try_step net s step) false
+  locks before [] s = are_within net before s && (channels_rest s && (nodes_rest s && nat_lt 0 (undelivered net s)))
+  locks before (step ∷ steps) s = are_within net before s && (meets s step && option_map_or (λ t. locks (before ++ step ∷ []) steps t) (try_step net s step) false)
 
   abbrev KeepsFrom : List Step → List Step → State → Type 0
   KeepsFrom before steps s = (done after : List Step) (t : State) → done ++ after ≡ steps → Run net s done t → AreWithin net (before ++ done) t
 
   record Locks (before steps : List Step) (s : State) : Type 0 where
     end : State
-    run : Run net s steps end
+    run : RunUnder Meets net s steps end
     keeps : KeepsFrom before steps s
-    locked : IsLockedUp net end
+    locked : IsLockedUpUnder Meets net end
 
-  here : (before : List Step) (s t : State) → are_within before s ≡ true → t ≡ s → AreWithin net (before ++ []) t
+  here : (before : List Step) (s t : State) → are_within net before s ≡ true → t ≡ s → AreWithin net (before ++ []) t
   here before s t all same =
-      subst (λ t. AreWithin net (before ++ []) t) (sym same) (subst (λ l. AreWithin net l s) (sym (append-nil before)) (within before s all))
+      subst (λ t. AreWithin net (before ++ []) t) (sym same) (subst (λ l. AreWithin net l s) (sym (append-nil before)) (within net before s all))
 
-  keeps_last : (before : List Step) (s : State) → are_within before s ≡ true → KeepsFrom before [] s
+  keeps_last : (before : List Step) (s : State) → are_within net before s ≡ true → KeepsFrom before [] s
   keeps_last before s all [] after t e r = here before s t all r
   keeps_last before s all (step ∷ done) after t e r = absurd (no_cons step (done ++ after) e)
 
   keeps_on : (before : List Step) (step : Step) (steps : List Step) (s mid : State)
-      → are_within before s ≡ true → try_step net s step ≡ Some mid → KeepsFrom (before ++ step ∷ []) steps mid → KeepsFrom before (step ∷ steps) s
+      → are_within net before s ≡ true → try_step net s step ≡ Some mid → KeepsFrom (before ++ step ∷ []) steps mid → KeepsFrom before (step ∷ steps) s
   keeps_on before step steps s mid all is on [] after t e r = here before s t all r
   keeps_on before step steps s mid all is on (first ∷ done) after t e r =
       let one : first ≡ step = head_is first step (done ++ after) steps e in
@@ -162,19 +177,20 @@ module _ (net : Network) where
       let a = and_parts _ _ e in
       let b = and_parts _ _ a.1 in
       let d = and_parts _ _ b.1 in
-      let locked : IsLockedUp net s = record { quiet = quiet ok s (all_rest s b.0 d.0); holds = ltb-true 0 (undelivered net s) d.1 } in
+      let locked : IsLockedUpUnder Meets net s = record { quiet = quiet ok s (all_rest s b.0 d.0); holds = ltb-true 0 (undelivered net s) d.1 } in
       record { end = s; run = refl; keeps = keeps_last before s a.0; locked = locked }
   shown ok before (step ∷ steps) s e =
       let a = and_parts _ _ e in
-      first (try_step net s step) refl a.0 a.1 (λ mid e. shown ok (before ++ step ∷ []) steps mid e)
+      let m = and_parts _ _ a.1 in
+      first (try_step net s step) refl a.0 m.0 m.1 (λ mid e. shown ok (before ++ step ∷ []) steps mid e)
     where
-      first : (o : Option State) → try_step net s step ≡ o → are_within before s ≡ true
+      first : (o : Option State) → try_step net s step ≡ o → are_within net before s ≡ true → Meets s step
           → option_map_or (λ t. locks (before ++ step ∷ []) steps t) o false ≡ true
           → ((mid : State) → locks (before ++ step ∷ []) steps mid ≡ true → Locks (before ++ step ∷ []) steps mid) → Locks before (step ∷ steps) s
-      first None is all e on = absurd (cc)
-      first (Some mid) is all e on =
+      first None is all m e on = absurd (cc)
+      first (Some mid) is all m e on =
           let l = on mid e in
-          record { end = l.end; run = (mid, tried net s step mid is, l.run); keeps = keeps_on before step steps s mid all is l.keeps; locked = l.locked }
+          record { end = l.end; run = (mid, m, tried net s step mid is, l.run); keeps = keeps_on before step steps s mid all is l.keeps; locked = l.locked }
 
   -- the node where the flow of a packet that was begun ends
   ends_in_net : IsNetwork net → (before : List Step) (flow : ℕ) (cargo : List ℕ) (end : End) (s t : State) → Run net s (before ++ Begin flow cargo end ∷ []) t → (net.flow flow).to < net.nodes
@@ -184,8 +200,8 @@ module _ (net : Network) where
       (ok.flow_ends flow (omega arith)).1
   ends_in_net ok (step ∷ before) flow cargo end s t r = ends_in_net ok before flow cargo end r.0 t r.2
 
-  pub locks_up : IsNetwork net → (steps : List Step) → locks [] steps (empty net) ≡ true → LocksUp net steps
-  locks_up ok steps e =
+  pub locks_up_under : IsNetwork net → (steps : List Step) → locks [] steps (empty net) ≡ true → LocksUpUnder Meets net steps
+  locks_up_under ok steps e =
       let l = shown ok [] steps (empty net) e in
       record {
         s = l.end;
@@ -193,3 +209,14 @@ module _ (net : Network) where
         keeps = λ before after flow cargo end t e r. l.keeps (before ++ Begin flow cargo end ∷ []) after t (append_assoc before (Begin flow cargo end ∷ []) after ∙ e) r (net.flow flow).to (ends_in_net ok before flow cargo end (empty net) t r);
         locked = l.locked;
       }
+
+-- the same where each step meets the guard
+pub locks_up : (net : Network) → IsNetwork net → (steps : List Step) → locks net (λ s step. true) [] steps (empty net) ≡ true → LocksUp net steps
+locks_up net ok steps e =
+    let l = locks_up_under net (λ s step. true) ok steps e in
+    record {
+      s = l.s;
+      run = runs_under_are_runs (λ s step. true ≡ true) net (empty net) steps l.s l.run;
+      keeps = l.keeps;
+      locked = record { quiet = λ step none p. l.locked.quiet step none refl p; holds = l.locked.holds };
+    }

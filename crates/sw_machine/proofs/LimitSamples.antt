@@ -91,9 +91,11 @@ module _ (slots : ℕ) (limit : Option ℕ) where
     no_flow = duel_no_flow;
     limited_flow = λ i is. ltb-true i 2 (and_parts (nat_lt i 2) (is_some limit) is).0;
     slot = λ n lt. some;
-    reply_goes = λ n memory bytes end lt. address_kept (duel_reply_to bytes);
-    reply_length = λ n memory bytes r end lt e. reply_length (duel_reply_to bytes) r e;
-    replies_end = λ i j n memory bytes r end li ln e a g. duel_replies_end i j r.cargo e;
+    answers = record {
+      reply_goes = λ n memory bytes end lt. address_kept (duel_reply_to bytes);
+      reply_length = λ n memory bytes r end lt e. reply_length (duel_reply_to bytes) r e;
+      replies_end = λ i j n memory bytes r end li ln e a g. duel_replies_end i j r.cargo e;
+    };
   }
 
 -- where a node has no limit, it does not always take
@@ -212,9 +214,11 @@ detour_is_network limit = record {
   no_flow = detour_no_flow;
   limited_flow = λ i is. let first = eqb-true i 0 (and_parts (nat_eq i 0) (is_some limit) is).0 in omega arith;
   slot = λ n lt. omega arith;
-  reply_goes = λ n memory bytes end lt. address_kept (detour_reply_to n bytes);
-  reply_length = λ n memory bytes r end lt e. reply_length (detour_reply_to n bytes) r e;
-  replies_end = λ i j n memory bytes r end li ln e a g. detour_replies_end limit i j r.cargo e;
+  answers = record {
+    reply_goes = λ n memory bytes end lt. address_kept (detour_reply_to n bytes);
+    reply_length = λ n memory bytes r end lt e. reply_length (detour_reply_to n bytes) r e;
+    replies_end = λ i j n memory bytes r end li ln e a g. detour_replies_end limit i j r.cargo e;
+  };
 }
 
 -- whatever the limit, the commands go on by the link of the switch to the target, and the replies go on to that link

@@ -257,7 +257,7 @@ module _ (net : Network) (ok : IsNetwork net) where
       let a = ap (count_by (is_command_at net n)) equal in
       let b = ap (count_by (is_command_at net n)) before in
       let push = sum_by_push (λ p. if is_command_at net n p then 1 else 0) ps p in
-      let o = owes_more n p (s.owed n) (net.answer n memory bytes end) (ok.reply_goes n memory bytes end ln) in
+      let o = owes_more n p (s.owed n) (net.answer n memory bytes end) (ok.answers.reply_goes n memory bytes end ln) in
       omega arith
 
   pub only_beginnings_raise : (steps : List Step) (s : State) → Run net (empty net) steps s → (step : Step) (t : State) → is_begin step ≡ false → Leads net s step t → (n : ℕ) → n < net.nodes → (came now : List Packet) → CameOut s n came → CameOut t n now → unanswered net n (steps ++ step ∷ []) now t ≤ unanswered net n steps came s
@@ -294,7 +294,7 @@ module _ (net : Network) (ok : IsNetwork net) where
       let a = ap (count_by (is_command_at net n)) equal in
       let b = ap (count_by (is_command_at net n)) before in
       let push = sum_by_push (λ p. if is_command_at net n p then 1 else 0) ps p in
-      let o = owes_more n p (s.owed n) (net.answer n memory bytes end) (ok.reply_goes n memory bytes end ln) in
+      let o = owes_more n p (s.owed n) (net.answer n memory bytes end) (ok.answers.reply_goes n memory bytes end ln) in
       let z = stays (s.owed n) (t.owed n) (omega arith) in
       omega arith
 

@@ -258,8 +258,8 @@ module _ (net : Network) (cert : Certificate) (ok : IsNetwork net) (acc : IsAcce
       let goes : h.reply.address ≡ (net.flow p.flow).address = ap (λ (a : PendingReply). a.address) same ∙ r.goes in
       let cargo : h.reply.cargo ≡ p.cargo = ap (λ (a : PendingReply). a.cargo) same ∙ sym r.cargo in
       let from : (net.flow p.flow).from ≡ n = flow.from ∙ r.at in
-      let few = ok.reply_length n w.memory w.bytes h.reply w.end h.in_net w.answer in
-      let end = ok.replies_end r.asked p.flow n w.memory w.bytes h.reply w.end r.in_flows h.in_net r.by w.answer goes in
+      let few = ok.answers.reply_length n w.memory w.bytes h.reply w.end h.in_net w.answer in
+      let end = ok.answers.replies_end r.asked p.flow n w.memory w.bytes h.reply w.end r.in_flows h.in_net r.by w.answer goes in
       let short : IsShort net p = record {
         from = subst (λ m. m < net.nodes) (sym from) h.in_net;
         cargo = let a = ap net.longest from in let l = ap length cargo in omega arith;

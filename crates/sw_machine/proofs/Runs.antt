@@ -134,7 +134,7 @@ module _ (net : Network) (cert : Certificate) (ok : IsNetwork net) (acc : IsAcce
       let same : h.reply ≡ r.reply = cc in
       let goes : h.reply.address ≡ (net.flow j).address = ap (λ (a : PendingReply). a.address) same ∙ r.goes in
       let cargo : h.reply.cargo ≡ p.cargo = ap (λ (a : PendingReply). a.cargo) same ∙ sym r.cargo in
-      let end = ok.replies_end r.asked j n w.memory w.bytes h.reply w.end r.in_flows h.in_net r.by w.answer goes in
+      let end = ok.answers.replies_end r.asked j n w.memory w.bytes h.reply w.end r.in_flows h.in_net r.by w.answer goes in
       let end2 = subst (λ k. net.reply_to (net.flow j).to (left_bytes net j k) ≡ None) cargo end in
       let is : reply_packet h.reply ≡ form_of net e = reply_is net h.reply p.flow p.cargo p.end goes cargo r.end in
       keep g begun t (after_reply s n h.reply h.others) (send_ghost net g n e) h.after

@@ -137,9 +137,11 @@ of_capacity_is_network capacity enough = record {
   no_flow = no_flows;
   limited_flow = λ i is. absurd cc;
   slot = slot;
-  reply_goes = replies_go;
-  reply_length = reply_lengths;
-  replies_end = λ i j n memory bytes r end li ln e a g. replies_end i j n memory bytes r end e;
+  answers = record {
+    reply_goes = replies_go;
+    reply_length = reply_lengths;
+    replies_end = λ i j n memory bytes r end li ln e a g. replies_end i j n memory bytes r end e;
+  };
 }
 
 pub misrouted_is_network : IsNetwork misrouted
@@ -157,9 +159,11 @@ misrouted_is_network = record {
   no_flow = λ i le. refl;
   limited_flow = λ i is. absurd cc;
   slot = slot;
-  reply_goes = replies_go;
-  reply_length = reply_lengths;
-  replies_end = λ i j n memory bytes r end li ln e a g. absurd (cc);
+  answers = record {
+    reply_goes = replies_go;
+    reply_length = reply_lengths;
+    replies_end = λ i j n memory bytes r end li ln e a g. absurd (cc);
+  };
 }
 
 -- what holds at each listed place

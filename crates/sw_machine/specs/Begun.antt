@@ -71,15 +71,23 @@ AllComesOut net = (steps : List Step) (begun : List Begun) (s : State) → RunOf
 abbrev pub is_reply_at : Network → ℕ → (List ℕ → Bool) → Begun → Bool
 is_reply_at net n test b = nat_le net.declared_flows b.flow && (nat_eq (net.flow b.flow).from n && test (net.flow b.flow).address)
 
+-- a packet that came out at node n and is answered, to an address that passes
+abbrev pub is_answered : Network → ℕ → (List ℕ → Bool) → Packet → Bool
+is_answered net n test p = option_map_or test (net.reply_to n p.bytes) false
+
 -- a command to node n that is answered there, to an address that passes
 abbrev pub is_answered_at : Network → ℕ → (List ℕ → Bool) → Begun → Bool
-is_answered_at net n test b = nat_eq (net.flow b.flow).to n && option_map_or test (net.reply_to n (left_bytes net b.flow b.cargo)) false
+is_answered_at net n test b = nat_eq (net.flow b.flow).to n && is_answered net n test (left_form net b)
 
--- each node begins at most one reply for each command to it that is answered
+-- each node begins at most one reply for each answered command that came out there
 abbrev pub RepliesAreAsked : Network → Type 0
-RepliesAreAsked net = (steps : List Step) (begun : List Begun) (s : State) → RunOf net (empty net) steps begun s → (n : ℕ) → n < net.nodes → (test : List ℕ → Bool) → count_by (is_reply_at net n test) begun ≤ count_by (is_answered_at net n test) begun
+RepliesAreAsked net = (steps : List Step) (begun : List Begun) (s : State) → RunOf net (empty net) steps begun s → (n : ℕ) → n < net.nodes → (test : List ℕ → Bool) (came : List Packet) → CameOut s n came → count_by (is_reply_at net n test) begun ≤ count_by (is_answered net n test) came
 
--- where nothing is undelivered, it began exactly one for each
+-- so at most one for each answered command to it that was begun
+abbrev pub NoMoreRepliesThanCommands : Network → Type 0
+NoMoreRepliesThanCommands net = (steps : List Step) (begun : List Begun) (s : State) → RunOf net (empty net) steps begun s → (n : ℕ) → n < net.nodes → (test : List ℕ → Bool) → count_by (is_reply_at net n test) begun ≤ count_by (is_answered_at net n test) begun
+
+-- where nothing is undelivered, it began exactly one for each of these
 abbrev pub AllIsAnswered : Network → Type 0
 AllIsAnswered net = (steps : List Step) (begun : List Begun) (s : State) → RunOf net (empty net) steps begun s → undelivered net s ≡ 0 → (n : ℕ) → n < net.nodes → (test : List ℕ → Bool) → count_by (is_reply_at net n test) begun ≡ count_by (is_answered_at net n test) begun
 

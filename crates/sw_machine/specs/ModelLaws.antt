@@ -8,17 +8,27 @@ use Rattle.sw_flow.specs.Limits as declared_limits
 use Rattle.sw_flow.specs.Valid.{IsValid}
 use Rattle.sw_flow.specs.Places as declared
 use Rattle.sw_flow.specs.Faults as declared_faults
-use Rattle.sw_machine.specs.Network.{IsDeclared, IsNetwork}
+use Rattle.sw_machine.specs.Certificate.{Certificate, IsAccepted}
+use Rattle.sw_machine.specs.DeadlockFreedom.{IsFree}
+use Rattle.sw_machine.specs.Network.{AnswersFit, IsDeclared, IsNetwork, Protocol}
 use Rattle.sw_machine.specs.Limits.{HasNoLimits}
 use Rattle.sw_machine.specs.Places as machine
 use Rattle.sw_machine.specs.Runs.{IsReached}
 use Rattle.sw_machine.specs.State.{State}
-use Rattle.sw_machine.specs.Model.{network_of}
+use Rattle.sw_machine.specs.Model.{network_by, network_of}
 use Rattle.sw_machine.specs.DeclaredPackets.{IsDeclaredPacket, is_declared_packet}
 
 -- each valid network is one of the machine's
 abbrev pub DeclaredNetworksAreNetworks : Type 0
 DeclaredNetworksAreNetworks = (d : Declaration) → IsValid d → IsNetwork (network_of d)
+
+-- so it is whatever protocol its nodes speak, as long as what they answer fits
+abbrev pub NetworksByProtocolsAreNetworks : Type 0
+NetworksByProtocolsAreNetworks = (protocol : Protocol) (d : Declaration) → IsValid d → AnswersFit (network_by protocol d) → IsNetwork (network_by protocol d)
+
+-- and what a certificate that is accepted for it shows, it shows whatever that protocol is
+abbrev pub AcceptedIsFreeByAnyProtocol : Type 0
+AcceptedIsFreeByAnyProtocol = (protocol : Protocol) (d : Declaration) (cert : Certificate) → IsValid d → IsAccepted (network_of d) cert → AnswersFit (network_by protocol d) → IsFree (network_by protocol d) cert
 
 -- flow i of all flows is f
 abbrev pub IsFlowAt : Declaration → ℕ → FlowEntry → Type 0

@@ -48,6 +48,14 @@ pub record Network : Type 0 where
   pub memory_after : ℕ → List ℕ → List ℕ → End → List ℕ  -- at a node with this memory, the memory after a packet
   pub memory_at_first : ℕ → List ℕ
 
+-- what the nodes of a network do with the packets that come, by the protocol that they speak
+pub record Protocol : Type 0 where
+  pub reply_to : ℕ → List ℕ → Option (List ℕ)  -- at a node, the address to which a packet of these bytes is answered
+  pub answer : ℕ → List ℕ → List ℕ → End → Option PendingReply  -- at a node with this memory, the reply to a packet
+  pub longest : ℕ → ℕ  -- how many bytes a reply of a node has behind its address, at most
+  pub memory_after : ℕ → List ℕ → List ℕ → End → List ℕ  -- at a node with this memory, the memory after a packet
+  pub memory_at_first : ℕ → List ℕ
+
 -- the other channel of the link: link i has the channels 2i and 2i+1
 abbrev pub reverse_of : ℕ → ℕ
 reverse_of c = if nat_eq (c % 2) 0 then c + 1 else c - 1
@@ -82,6 +90,14 @@ pub record IsReplyFlow (net : Network) (i j : ℕ) : Type 0 where
   pub left : (net.flow j).left ≡ 1
   pub unanswered : (net.flow j).reply ≡ None
 
+-- what the nodes answer fits: all that the theorem asks of the protocol by which they do
+pub record AnswersFit (net : Network) : Type 0 where
+  -- whether a reply comes, and where it goes, depends on neither memory nor end marker (ECSS-E-ST-50-52C: reply address field)
+  pub reply_goes : (n : ℕ) (memory bytes : List ℕ) (end : End) → n < net.nodes → option_map (λ (r : PendingReply). r.address) (net.answer n memory bytes end) ≡ net.reply_to n bytes
+  pub reply_length : (n : ℕ) (memory bytes : List ℕ) (r : PendingReply) (end : End) → n < net.nodes → net.answer n memory bytes end ≡ Some r → length r.cargo ≤ net.longest n
+  -- a reply gets no answer
+  pub replies_end : (i j n : ℕ) (memory bytes : List ℕ) (r : PendingReply) (end : End) → i < net.flows → n < net.nodes → (net.flow i).reply ≡ Some j → net.answer n memory bytes end ≡ Some r → r.address ≡ (net.flow j).address → net.reply_to (net.flow j).to (left_bytes net j r.cargo) ≡ None
+
 -- what holds of each network
 pub record IsNetwork (net : Network) : Type 0 where
   pub room : (c : ℕ) → c < net.channels → 8 ≤ net.capacity c
@@ -98,8 +114,4 @@ pub record IsNetwork (net : Network) : Type 0 where
   -- a flow of replies is never limited
   pub limited_flow : (i : ℕ) → net.limited i ≡ true → i < net.declared_flows
   pub slot : (n : ℕ) → n < net.nodes → 0 < net.slots n
-  -- whether a reply comes, and where it goes, hangs on neither memory nor end marker (ECSS-E-ST-50-52C: reply address field)
-  pub reply_goes : (n : ℕ) (memory bytes : List ℕ) (end : End) → n < net.nodes → option_map (λ (r : PendingReply). r.address) (net.answer n memory bytes end) ≡ net.reply_to n bytes
-  pub reply_length : (n : ℕ) (memory bytes : List ℕ) (r : PendingReply) (end : End) → n < net.nodes → net.answer n memory bytes end ≡ Some r → length r.cargo ≤ net.longest n
-  -- a reply gets no answer
-  pub replies_end : (i j n : ℕ) (memory bytes : List ℕ) (r : PendingReply) (end : End) → i < net.flows → n < net.nodes → (net.flow i).reply ≡ Some j → net.answer n memory bytes end ≡ Some r → r.address ≡ (net.flow j).address → net.reply_to (net.flow j).to (left_bytes net j r.cargo) ≡ None
+  pub answers : AnswersFit net

@@ -1,14 +1,14 @@
 //! Laws of the machine, each over every network, state and run that it names. The functions do
 //! nothing: a call brings the law of its contract.
 
-ghost use Rattle.sw_machine.specs.Certificate.{IsAccepted};
+ghost use Rattle.sw_machine.specs.Certificate.{IsAccepted, number};
 ghost use Rattle.sw_machine.specs.Credit.{CreditIsKept};
 ghost use Rattle.sw_machine.specs.Memory.{MemoryIsOfPackets};
 ghost use Rattle.sw_machine.specs.Network.{IsNetwork};
 ghost use Rattle.sw_machine.specs.Sample.{certificate, misrouted, of_capacity, sample};
 ghost use Rattle.sw_machine.specs.Witnesses.{IsAnswered, IsDiscarded, IsDropped, SendsFcts};
-ghost use Rattle.std.specs.Prelude.{◌<◌, ◌≤◌, ◌∷◌, [], None, Option, Some, ℕ};
-ghost use Rattle.sw_machine.specs.Begun.{AllComesOut, AllIsAnswered, ComesOutWhole, EachRunIsCounted, IsBounded, IsBoundedByLoad, RepliesAreAsked};
+ghost use Rattle.std.specs.Prelude.{◌<◌, ◌≤◌, ◌∷◌, [], None, Option, Some, nat_eq, true, ℕ};
+ghost use Rattle.sw_machine.specs.Begun.{AllComesOut, AllIsAnswered, ComesOutWhole, EachRunIsCounted, IsBounded, IsBoundedByLoad, NoMoreRepliesThanCommands, RepliesAreAsked};
 ghost use Rattle.sw_machine.specs.DeadlockFreedom.{AcceptedIsFree, AlwaysGoesOn, AlwaysGoesOnWithinLimits, EndsEmpty, EndsEmptyWithinLimits, IsNeverLockedUp, IsNeverLockedUpWithinLimits, NothingIsDropped, OfAccepted, OfAcceptedWithoutLimits, QuietIsEmpty, QuietIsEmptyWithinLimits};
 ghost use Rattle.sw_machine.specs.LimitSamples.{LocksUp, detour, detour_certificate, detour_steps, duel, duel_certificate, duel_steps};
 ghost use Rattle.sw_machine.specs.Limits.{KeptAfterEachStep, NothingIsUnanswered, OnlyBeginningsRaise, WithoutLimitsAllAreKept};
@@ -16,6 +16,8 @@ ghost use Rattle.sw_machine.specs.OneSlot.{OneSlotIsOneReply};
 ghost use Rattle.sw_machine.specs.Owed.{EmitSettles, NodesOweReplies, OnlyAskedOwe};
 ghost use Rattle.sw_machine.specs.Parts.{LinkEndsAreAtCells, OutputsAreHeldOnce, StepsAreLocal, StepsChangeOneCell};
 ghost use Rattle.sw_machine.specs.Places.{IsCycle, RisingHasNoCycle};
+ghost use Rattle.sw_machine.specs.Stalling.{AlwaysGoesOnUnder, Guard, IsNeverLockedUpUnder, NoneStallingIsTheMachine, OfAcceptedStalling, QuietIsEmptyUnder, RisesWhereStalling, RunsUnderAreRuns, StallingGuard};
+ghost use Rattle.sw_machine.specs.StallingSamples.{LocksUpUnder, standoff_steps};
 ghost use Rattle.sw_machine.specs.Steps.{StepsAreDetermined};
 ghost use Rattle.sw_machine.specs.Tried.{StepsAreTried};
 
@@ -91,6 +93,32 @@ pub fn limits_are_kept()
     ensures answered { OfAccepted NothingIsUnanswered }
 {}
 
+/// A guard on the steps, for laws over any guard.
+pub trait Guarded {
+    /// In this state this step may be done, if it is possible.
+    ghost guard: { Guard };
+}
+
+/// Each run under a guard is a run.
+pub fn guarded_runs_are_runs<G: Guarded>()
+    ensures { RunsUnderAreRuns G.guard }
+{}
+
+/// Where no node stalls, the runs under the guard of the nodes that stall are the runs.
+pub fn none_stalling_is_the_machine()
+    ensures { NoneStallingIsTheMachine }
+{}
+
+/// Where the numbers of an accepted certificate rise at the nodes that stall too, from the channel into such a
+/// node to the channel out of it, no state reached under their guard by a run that keeps the limits is locked up
+/// under it: one that holds an undelivered character has a possible step other than a beginning that meets the
+/// guard, and in a quiet one nothing is undelivered.
+pub fn stalling_is_never_locked_up()
+    ensures goes_on { OfAcceptedStalling AlwaysGoesOnUnder }
+    ensures never { OfAcceptedStalling IsNeverLockedUpUnder }
+    ensures quiet { OfAcceptedStalling QuietIsEmptyUnder }
+{}
+
 /// Over each run of an accepted network the packets that come out at a node are packets begun to it,
 /// unchanged but for deleted address bytes and no oftener than begun; where nothing is undelivered
 /// they came out exactly as often. Each run has begun packets. No step drops or spills a character.
@@ -101,10 +129,12 @@ pub fn accepted_comes_out_whole()
     ensures all { OfAccepted AllComesOut }
 {}
 
-/// Over each run of an accepted network a node begins at most one reply for each command to it that
-/// is answered, and exactly one where nothing is undelivered; only such a node owes replies.
+/// Over each run of an accepted network a node begins at most one reply for each answered command that
+/// came out there, so for each that was begun, and exactly one where nothing is undelivered; only such a
+/// node owes replies.
 pub fn accepted_answers_once()
     ensures asked { OfAccepted RepliesAreAsked }
+    ensures begun { OfAccepted NoMoreRepliesThanCommands }
     ensures all { OfAccepted AllIsAnswered }
     ensures owed { OfAccepted OnlyAskedOwe }
 {}
@@ -147,6 +177,15 @@ pub fn limits_are_sharp()
     ensures detour_cyclic { IsCycle (detour None) (4 ∷ 3 ∷ 2 ∷ []) }
     ensures detour_accepted { IsAccepted (detour (Some 1)) detour_certificate }
     ensures detour_sharp { LocksUp (detour (Some 2)) detour_steps }
+{}
+
+/// There is an accepted network whose numbers rise at its target. Another, whose numbers don't rise at its two
+/// nodes, locks up where both stall, by a run that keeps the limits.
+pub fn stalling_is_sharp()
+    ensures rises { RisesWhereStalling sample (nat_eq 1) (number certificate) }
+    ensures network { IsNetwork (duel 2 (Some 1)) }
+    ensures accepted { IsAccepted (duel 2 (Some 1)) duel_certificate }
+    ensures locked { LocksUpUnder (StallingGuard (λ n. true)) (duel 2 (Some 1)) standoff_steps }
 {}
 
 /// On an empty channel as many FCTs are sent as there is room for, and seven at most; a packet that

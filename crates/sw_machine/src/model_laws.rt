@@ -1,9 +1,16 @@
 //! What holds of the machine's network of a declared network. These functions do nothing: each is the proof of what its clause says.
-ghost use Rattle.sw_machine.specs.ModelLaws.{AlwaysTakesAgrees, DeclaredNetworksAreNetworks, DeclaredPacketsAgree, DeclaredPacketsPass, LooksAgree, MemoriesKeepTheirLength, StepsOfFlowsAgree, WithoutOutstandingNoLimits};
+ghost use Rattle.sw_machine.specs.ModelLaws.{AcceptedIsFreeByAnyProtocol, AlwaysTakesAgrees, DeclaredNetworksAreNetworks, DeclaredPacketsAgree, DeclaredPacketsPass, LooksAgree, MemoriesKeepTheirLength, NetworksByProtocolsAreNetworks, StepsOfFlowsAgree, WithoutOutstandingNoLimits};
 
 /// Each valid network is one of the machine's.
 pub fn declared_networks_are_networks()
     ensures { DeclaredNetworksAreNetworks }
+{}
+
+/// Whatever protocol the nodes of a valid network speak, as long as what they answer fits, it is one of the
+/// machine's, and what an accepted certificate shows of it holds. Of RMAP that is all that matters.
+pub fn any_protocol_is_free()
+    ensures networks { NetworksByProtocolsAreNetworks }
+    ensures free { AcceptedIsFreeByAnyProtocol }
 {}
 
 /// Each flow of a valid network has the same steps, places and faults in the machine.

@@ -3,7 +3,7 @@ ghost use Rattle.std.specs.Option.{option_map_or};
 ghost use Rattle.std.specs.Prelude.{◌≡◌, ◌+◌, ◌<◌, ◌≤◌, ◌++◌, ◌∷◌, [], ◌↔◌, IfSome, IsTrue, is_some, length, option_map, take};
 ghost use Rattle.sw_flow.specs.Entries.{target_of};
 ghost use Rattle.sw_flow.specs.Valid.{IsFlow};
-ghost use Rattle.sw_machine.specs.Model.{answered_to};
+ghost use Rattle.sw_machine.specs.Rmap.{answered_to};
 ghost use Rattle.sw_rmap.specs.Targets.{longest_reply};
 ghost use Rattle.sw_machine.specs.DeclaredPackets.{IsRightWay, left_bytes, reply_address};
 ghost use Rattle.sw_rmap.specs.Replies.{path_of, reply_to};

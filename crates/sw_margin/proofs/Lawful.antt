@@ -10,7 +10,7 @@ use Rattle.sw_search.specs.Verdicts.{depends}
 use Rattle.sw_flow.proofs.Sorted.{same_sorted}
 use Rattle.sw_search.proofs.Zips.{zip_determined}
 use Rattle.sw_margin.specs.declared.bend.Bend.{Bend}
-use Rattle.sw_margin.specs.Bends.{IsAnswer, IsBend, IsStall, answering_at, quiet_nodes, stall, unanswered}
+use Rattle.sw_margin.specs.Bends.{IsAnswer, IsBend, IsStall, answerable, answering_at, quiet_nodes, stall}
 use Rattle.sw_margin.specs.Laws.{AnswersAreDetermined, FreeBefore, LossesAreDetermined, StallsAreDetermined}
 use Rattle.sw_margin.specs.Losses.{IsLost}
 use Rattle.sw_margin.specs.Waits.{WaitsWith}
@@ -27,7 +27,7 @@ pub stalls_are_determined : StallsAreDetermined
 stalls_are_determined d told other h k = zip_determined (IsStall d) (λ n a b. same_bend d (stall d n) n a b) (quiet_nodes d) told other h k
 
 pub answers_are_determined : AnswersAreDetermined
-answers_are_determined d told other h k = zip_determined (IsAnswer d) (λ i a b. same_bend d (answering_at d i) i a b) (unanswered d) told other h k
+answers_are_determined d told other h k = zip_determined (IsAnswer d) (λ i a b. same_bend d (answering_at d i) i a b) (answerable d) told other h k
 
 -- a set has one listing
 pub same_listing : (P : ℕ → Type 0) (xs ys : List ℕ) → IsListing P xs → IsListing P ys → xs ≡ ys

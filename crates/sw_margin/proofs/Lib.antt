@@ -5,3 +5,10 @@ pub mod Needing
 pub mod LinkRows
 pub mod Lawful
 pub mod Greatest
+mod Whole
+mod Back
+mod Replied
+mod Exact
+mod Stalled
+mod Tellings
+mod Answerable

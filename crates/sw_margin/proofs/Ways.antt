@@ -1,7 +1,7 @@
 -- The way of a flow, and what waits on it.
-use Rattle.std.proofs.Common.{◌≡◌, true, ℕ, zero, suc, ◌+◌, ◌-◌, ◌*◌, ◌<◌, List, [], ◌∷◌, ◌++◌, length, map, All, Contains, Option, Some, None, refl, sym, ap, ◌∙◌, arith, append_assoc}
+use Rattle.std.proofs.Common.{◌≡◌, Bool, true, false, ◌&&◌, ℕ, zero, suc, ◌+◌, ◌-◌, ◌*◌, ◌<◌, List, [], ◌∷◌, ◌++◌, length, map, All, Contains, Option, Some, None, refl, sym, ap, ◌∙◌, arith, append_assoc}
 use Rattle.std.specs.Prelude.{slice_get, if◌then◌else◌}
-use Rattle.std.specs.List.{AllByRecursion}
+use Rattle.std.specs.List.{AllByRecursion, list_all}
 use Rattle.std.specs.Option.{option_map_or}
 use Rattle.std.proofs.lemmas.List.Elements.{All-from_recursion}
 use Rattle.std.proofs.lemmas.Option.{get_or_from_slice_get, slice_get_within}
@@ -13,7 +13,7 @@ use Rattle.sw_flow.specs.declared.place.Place.{Place}
 use Rattle.sw_flow.specs.Followers.{followers_of}
 use Rattle.sw_flow.specs.Places.{ends_of}
 use Rattle.sw_flow.proofs.Walked.{followers_are_listed}
-use Rattle.sw_margin.specs.Bends.{answered, answering, first_way, is_just_enough, stall, start_on, waits_back, way_of}
+use Rattle.sw_margin.specs.Bends.{answered, answering, first_way, goes_on_to_one, goes_one_way, is_just_enough, stall, start_on, waits_back, way_of}
 use Rattle.sw_margin.specs.Waits.{IsWithin}
 use Rattle.sw_flow.proofs.Partners.{partner_within}
 
@@ -29,6 +29,10 @@ pub follower_within : (d : Declaration) (f : FlowEntry) (c k : ℕ) (p : Place) 
 follower_within d f c k p h =
     let step = (followers_are_listed d f c k p).0 h in
     slice_get_within (ends_of d) p.channel _ (port_starts (wiring_of d) step.switch step.named.port p.channel step.named.linked)
+
+and_true : (b : Bool) → (b && true) ≡ b
+and_true true = refl
+and_true false = refl
 
 module _ (d : Declaration) (f : FlowEntry) where
   abbrev channels : List Place → List ℕ
@@ -76,6 +80,41 @@ module _ (d : Declaration) (f : FlowEntry) where
       let one : waits_from (suc n) p ≡ w ∷ waits_from n q = ap (λ (ps : List Place). waits_back (channels (p ∷ ps))) (goes_on n p q some) in
       let here : before ++ waits_from (total - i) p ≡ before ++ (w ∷ waits_from n q) = ap (λ k. before ++ waits_from k p) count ∙ ap (λ (l : List (ℕ × ℕ)). before ++ l) one in
       ap (λ (l : List (ℕ × ℕ)). l ++ waits_from n q) more ∙ append_assoc before (w ∷ []) (waits_from n q) ∙ sym here ∙ so_far
+
+  -- ---- whether it goes one way
+
+  abbrev alone : Place → Bool
+  alone = goes_on_to_one d f
+
+  -- so it does from that place on
+  abbrev pub alone_from : ℕ → Place → Bool
+  alone_from n p = list_all alone (p ∷ first_way d f n p)
+
+  pub alone_begun : (p : Place) → out (ends_of d) f.from ≡ Some p.channel → p.deleted ≡ 0 → alone_from (length (ends_of d)) p ≡ goes_one_way d f
+  alone_begun p starts whole =
+      let at : start_on p.channel ≡ p = λ i. record { channel = p.channel; deleted = (sym whole) i } in
+      let way : way_of d f ≡ start_on p.channel ∷ first_way d f (length (ends_of d)) (start_on p.channel) =
+      ap (λ (o : Option ℕ). option_map_or (λ c. start_on c ∷ first_way d f (length (ends_of d)) (start_on c)) o []) starts in
+      sym (ap (list_all alone) way ∙ ap (alone_from (length (ends_of d))) at)
+
+  -- one step
+  pub alone_more : (total i : ℕ) (p q : Place) (w : Bool) → i < total → alone p ≡ true → first_of p ≡ Some q → alone_from (total - i) p ≡ w → alone_from (total - (i + 1)) q ≡ w
+  alone_more total i p q w lt one some so_far =
+      let n : ℕ = total - (i + 1) in
+      let count : total - i ≡ suc n = omega arith in
+      let here : alone_from (suc n) p ≡ alone_from n q = ap (λ b. b && list_all alone (first_way d f (suc n) p)) one ∙ ap (list_all alone) (goes_on n p q some) in
+      sym here ∙ ap (λ k. alone_from k p) (sym count) ∙ so_far
+
+  -- the way ends there
+  pub alone_ended : (n : ℕ) (p : Place) → alone p ≡ true → first_of p ≡ None → alone_from n p ≡ true
+  alone_ended n p one none = ap (λ b. b && list_all alone (first_way d f n p)) one ∙ ap (list_all alone) (ended n p none)
+
+  pub alone_last : (p : Place) → alone_from 0 p ≡ alone p
+  alone_last p = and_true (alone p)
+
+  -- several places follow
+  pub not_alone : (n : ℕ) (p : Place) → alone p ≡ false → alone_from n p ≡ false
+  not_alone n p several = ap (λ b. b && list_all alone (first_way d f n p)) several
 
   -- where it starts, too
   pub with_stall : (old after : List (ℕ × ℕ)) (w : ℕ × ℕ) → is_just_enough d f.from ≡ true → old ≡ answering d f → stall d f.from ≡ w ∷ [] → after ≡ old ++ w ∷ [] → after ≡ answered d f

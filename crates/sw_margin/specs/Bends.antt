@@ -1,6 +1,6 @@
 -- Nodes that take nothing while they want to send, and flows that are answered: what then waits, and whether the network stays free.
-use Rattle.std.specs.Prelude.{◌≡◌, ◌↔◌, ℕ, zero, suc, ◌==◌, Bool, false, not, IsTrue, is_some, List, [], ◌∷◌, ◌++◌, filter, map, length, slice_get, if◌then◌else◌}
-use Rattle.std.specs.List.{AllZip, range_with_len}
+use Rattle.std.specs.Prelude.{◌≡◌, ◌↔◌, ℕ, zero, suc, ◌==◌, ◌&&◌, Bool, false, not, IsTrue, is_some, List, [], ◌∷◌, ◌++◌, filter, map, length, slice_get, if◌then◌else◌}
+use Rattle.std.specs.List.{AllZip, list_all, range_with_len}
 use Rattle.std.specs.Option.{option_map_or}
 use Rattle.sw_topo.specs.Wiring.{out, partner}
 use Rattle.sw_config.specs.Entries.{FlowEntry, Declaration, target_of}
@@ -24,13 +24,6 @@ stall d n = option_map_or (λ c. (partner c, c) ∷ []) (out (ends_of d) n) []
 
 -- ---- flows
 
-abbrev pub is_unanswered : FlowEntry → Bool
-is_unanswered f = not (is_some f.reply)
-
--- the flows without a reply, in order
-abbrev pub unanswered : Declaration → List ℕ
-unanswered d = filter (λ i. option_map_or is_unanswered (slice_get d.flows i) false) (range_with_len 0 (length d.flows))
-
 -- from a place on, again and again by the first of the places that follow, so many times at most
 abbrev pub first_way : Declaration → FlowEntry → ℕ → Place → List Place
 first_way d f zero p = []
@@ -43,6 +36,22 @@ start_on c = record { channel = c; deleted = 0 }
 -- from the flow's start on so; nothing where there is no such channel
 abbrev pub way_of : Declaration → FlowEntry → List Place
 way_of d f = option_map_or (λ c. start_on c ∷ first_way d f (length (ends_of d)) (start_on c)) (out (ends_of d) f.from) []
+
+-- from the place the flow goes on to one place at most
+abbrev pub goes_on_to_one : Declaration → FlowEntry → Place → Bool
+goes_on_to_one d f p = not (is_some (slice_get (followers_of d f p.channel p.deleted) 1))
+
+-- so it does from each place of its way: no group is on it
+abbrev pub goes_one_way : Declaration → FlowEntry → Bool
+goes_one_way d f = list_all (goes_on_to_one d f) (way_of d f)
+
+-- a flow without a reply that goes one way
+abbrev pub is_answerable : Declaration → FlowEntry → Bool
+is_answerable d f = not (is_some f.reply) && goes_one_way d f
+
+-- such flows, in order
+abbrev pub answerable : Declaration → List ℕ
+answerable d = filter (λ i. option_map_or (is_answerable d) (slice_get d.flows i) false) (range_with_len 0 (length d.flows))
 
 -- Replies go back over the links of a way of these channels: what is on its last channel waits for the other channel of that link,
 -- and what is on the other channel of each link for that of the link before.
@@ -88,6 +97,6 @@ IsAnswer d i b = IsBend d (answering_at d i) i b
 abbrev pub AreStalls : Declaration → List Bend → Type 0
 AreStalls d told = AllZip (IsStall d) (quiet_nodes d) told
 
--- of each flow without a reply: whether the network stays free if it is answered, the replies going back over the links of its way
+-- of each flow without a reply that goes one way: whether the network stays free if it is answered, the replies going back over its links
 abbrev pub AreAnswers : Declaration → List Bend → Type 0
-AreAnswers d told = AllZip (IsAnswer d) (unanswered d) told
+AreAnswers d told = AllZip (IsAnswer d) (answerable d) told

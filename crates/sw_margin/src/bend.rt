@@ -25,8 +25,8 @@ pub struct Margins {
     /// Of each node where nothing that comes may have to wait for a reply, in order: whether the network stays free if the node takes
     /// nothing while it wants to send.
     pub stalls: Vec<Bend>,
-    /// Of each flow without a reply, in order: whether the network stays free if the flow is answered, the replies going back over the
-    /// links of its way.
+    /// Of each flow without a reply that goes one way, in order: whether the network stays free if the flow is answered, the replies
+    /// going back over the links of its way.
     pub answers: Vec<Bend>,
     /// Of each flow that has a limit of its own, in order: how many of its commands may be unanswered for the network to be free.
     pub limits: Vec<FlowLimit>,

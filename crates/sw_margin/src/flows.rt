@@ -4,7 +4,7 @@ ghost use Rattle.sw_margin.specs.Bends.{AreAnswers, IsAnswer};
 ghost use Rattle.sw_margin.specs.Waits.{AreDependencies};
 
 use crate::bend::Bend;
-use crate::chosen::is_unanswered;
+use crate::chosen::is_answerable;
 use crate::trial::bend;
 use crate::way::waits_where_answered;
 use std::alloc::{AllocError, Global};
@@ -27,8 +27,8 @@ fn told_of<W: VerdictWorkers>(
     bend(workers, alloc, network, rows, flow, &waits)
 }
 
-/// Of each flow without a reply: whether the network stays free if the flow is answered, the replies going back over the links of its
-/// way, which goes on each time to the first of the places that follow.
+/// Of each flow without a reply that goes one way, with no group on it: whether the network stays free if the flow is answered, the
+/// replies going back over the links of its way.
 ///
 /// `rows` has for each channel those for which a packet on it may wait, as `sw_cycle::dependencies` gives them. The workers share
 /// the work of each trial.
@@ -47,7 +47,7 @@ pub fn answers<W: VerdictWorkers>(
 {
     let mut told = Vec::new(alloc);
     for flow in 0..network.declared_flows() {
-        if !is_unanswered(network, flow) {
+        if !is_answerable(network, flow) {
             continue;
         }
         told.push(told_of(workers, alloc, network, rows, flow)?)?;

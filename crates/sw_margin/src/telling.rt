@@ -44,8 +44,8 @@ fn told_by_rows<W: VerdictWorkers>(
 }
 
 /// How far the premises of a network bend: of each node where nothing that comes may have to wait for a reply, whether the network stays
-/// free if it takes nothing while it wants to send; of each flow without a reply, whether it stays free if the flow is answered along its
-/// own way; of each flow with a limit of its own, how many of its commands may be unanswered for the network to be free; and for each link
+/// free if it takes nothing while it wants to send; of each flow without a reply that goes one way, whether it stays free if the flow is answered
+/// along it; of each flow with a limit of its own, how many of its commands may be unanswered for the network to be free; and for each link
 /// the flows that are lost without it. The workers share the work.
 ///
 /// # Errors

@@ -4,7 +4,7 @@ ghost use Rattle.sw_topo.specs.Wiring.{partner};
 ghost use Rattle.sw_config.specs.Valid.{IsFlow};
 ghost use Rattle.sw_flow.specs.Followers.{followers_of};
 ghost use Rattle.sw_flow.specs.Places.{ends_of};
-ghost use Rattle.sw_margin.specs.Bends.{answered, answering, is_just_enough};
+ghost use Rattle.sw_margin.specs.Bends.{answered, answering, goes_on_to_one, goes_one_way, is_just_enough};
 ghost use Rattle.sw_margin.specs.Waits.{IsWithin};
 
 use crate::nodes::stall;
@@ -18,6 +18,34 @@ fn first_follower(network: &Network, flow: &Flow, place: &Place) -> Option<Place
     ensures { result ≡ slice_get (followers_of network.now flow.now place.now.channel place.now.deleted) 0 }
 {
     followers_in(network, flow, *place).next()
+}
+
+/// Does the flow go on from the place to one place at most?
+fn goes_on_to_one(network: &Network, flow: &Flow, place: &Place) -> bool
+    requires { IsFlow network.now.nodes flow.now }
+    ensures { result ≡ goes_on_to_one network.now flow.now place.now }
+{
+    let mut followers = followers_in(network, flow, *place);
+    let _first = followers.next();
+    followers.next().is_none()
+}
+
+/// Does the flow go one way: from each place of its way to one place at most?
+pub(crate) fn goes_one_way(network: &Network, flow: &Flow) -> bool
+    requires { IsFlow network.now.nodes flow.now }
+    ensures { result ≡ goes_one_way network.now flow.now }
+{
+    let mut place = flow_start(network, flow);
+    for _ in 0..network.channels() {
+        if !goes_on_to_one(network, flow, &place) {
+            return false;
+        }
+        let Some(next) = first_follower(network, flow, &place) else {
+            return true;
+        };
+        place = next;
+    }
+    goes_on_to_one(network, flow, &place)
 }
 
 /// Adds what waits between the places of the flow's way, and tells the last of these.

@@ -34,7 +34,7 @@ place_of d n low high = limit_at_place d 8 (8 - n) (omega (arith, low, high)) �
 
 -- ---- what is told where flows are unlimited
 
-of_limits : (d : Declaration) (found : Option Limiting) → has_unlimited d ≡ true → IsLimiting d found → IsFirst (FreesLimited d) (limits_from d 8) found
+pub of_limits : (d : Declaration) (found : Option Limiting) → has_unlimited d ≡ true → IsLimiting d found → IsFirst (FreesLimited d) (limits_from d 8) found
 of_limits d found is told = subst (λ b. IsFirst (FreesLimited d) (if b then limits_from d 8 else limit_and_slots d None ∷ []) found) is told
 
 of_slots : (d : Declaration) (found : Option Limiting) → has_unlimited d ≡ false → IsLimiting d found → IsFirst (FreesLimited d) (limit_and_slots d None ∷ []) found
@@ -46,10 +46,10 @@ never_before : (d : Declaration) (told : Limiting) (n : ℕ) (at : FirstAt (Free
 never_before d told n at low high lt frees = at.2 (8 - n) (limit_alone n) lt (place_of d n low high) (All-nil IsSlots, frees)
 
 -- what is told at a place of a limit alone
-told_alone : (d : Declaration) (told : Limiting) (i : ℕ) → slice_get (limits_from d 8) i ≡ Some told → i < 8 → told ≡ limit_alone (8 - i)
+pub told_alone : (d : Declaration) (told : Limiting) (i : ℕ) → slice_get (limits_from d 8) i ≡ Some told → i < 8 → told ≡ limit_alone (8 - i)
 told_alone d told i here lt = same_Some told (limit_alone (8 - i)) (sym here ∙ limit_at_place d 8 i lt)
 
-told_last : (d : Declaration) (told : Limiting) (i : ℕ) → slice_get (limits_from d 8) i ≡ Some told → 8 ≤ i → (i ≡ 8) × (told ≡ limit_and_slots d (Some 1))
+pub told_last : (d : Declaration) (told : Limiting) (i : ℕ) → slice_get (limits_from d 8) i ≡ Some told → 8 ≤ i → (i ≡ 8) × (told ≡ limit_and_slots d (Some 1))
 told_last d told i here past = elim (cases_lt 8 i) [
   | inl over ↦
       let none : Some told ≡ None = sym here ∙ no_place d 8 i over in
@@ -125,7 +125,7 @@ limitings_free d told is = elim (cases_Bool (has_unlimited d)) [
 ]
 
 -- where each flow is limited no limit is told
-no_limit_told : (d : Declaration) (told : Limiting) → has_unlimited d ≡ false → IsLimiting d (Some told) → told.most ≡ None
+pub no_limit_told : (d : Declaration) (told : Limiting) → has_unlimited d ≡ false → IsLimiting d (Some told) → told.most ≡ None
 no_limit_told d told none is =
     elim (of_slots d (Some told) none is) [
       | inl here ↦ ap (λ (l : Limiting). l.most) (same_Some told (limit_and_slots d None) here.1)

@@ -22,3 +22,13 @@ pub mod Firsts
 pub mod FirstLimits
 pub mod WantedSlots
 mod WithOutstanding
+mod LimitedValid
+mod NeverLocked
+mod SplitLinks
+mod SplitsTried
+mod OneLinkMore
+mod SplitPlaces
+mod SplitFlows
+mod SplitArrivals
+mod SplitsTold
+mod ChangesInWords

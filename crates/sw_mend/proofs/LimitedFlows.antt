@@ -41,7 +41,7 @@ name_kept : (nodes : List NodeEntry) (most : Option ℕ) (f : FlowEntry) (b : Bo
 name_kept nodes most f true = refl
 name_kept nodes most f false = refl
 
-names_kept : (nodes : List NodeEntry) (most : Option ℕ) (flows : List FlowEntry) → flow_names (map (flow_limited nodes most) flows) ≡ flow_names flows
+pub names_kept : (nodes : List NodeEntry) (most : Option ℕ) (flows : List FlowEntry) → flow_names (map (flow_limited nodes most) flows) ≡ flow_names flows
 names_kept nodes most [] = refl
 names_kept nodes most (f ∷ flows) = λ t. name_kept nodes most f (is_limited nodes f) t ∷ names_kept nodes most flows t
 

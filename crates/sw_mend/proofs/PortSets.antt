@@ -12,7 +12,7 @@ use Rattle.sw_mend.specs.Changes.{ports_but}
 use Rattle.sw_topo.proofs.Lists.{kept}
 
 -- sets with the same ports are the same
-same_ports : (s t : ℕ) → ((p : ℕ) → IsBitSet s p ↔ IsBitSet t p) → s ≡ t
+pub same_ports : (s t : ℕ) → ((p : ℕ) → IsBitSet s p ↔ IsBitSet t p) → s ≡ t
 same_ports s t same =
     same_from_bits s t (λ p. elim (cases_eq (bit_at s p) 1) [
       | inl one ↦ one ∙ sym (set_one t p ((same p).0 (one_set s p one)))

@@ -2,6 +2,9 @@
 use Rattle.std.specs.Prelude.{◌≡◌, ◌↔◌, ℕ, ◌<◌, Contains, List, [], ◌∷◌, Some, slice_get}
 use Rattle.sw_config.specs.Entries.{Declaration}
 use Rattle.sw_config.specs.Valid.{IsValid}
+use Rattle.sw_machine.specs.Certificate.{Certificate}
+use Rattle.sw_machine.specs.DeadlockFreedom as machine
+use Rattle.sw_machine.specs.Model.{network_of}
 use Rattle.sw_mend.specs.Changes.{changed, changed_by_all, removals}
 use Rattle.sw_mend.specs.Mends.{AreMends, ArePairMends, AreUnitMends, Frees, FreesTogether, left_by, single_changes, unit_changes}
 use Rattle.sw_mend.specs.declared.change.Change.{Change}
@@ -68,3 +71,23 @@ PairsAreThoseThatFree =
 -- the pairs that are told of a network are determined
 abbrev pub PairsAreDetermined : Type 0
 PairsAreDetermined = (d : Declaration) (told other : List Pair) → ArePairMends d told → ArePairMends d other → told ≡ other
+
+-- each network that a change which is told leaves never locks up, over every run that keeps the limits on unanswered commands, and over every
+-- run where there are none
+abbrev pub MendsNeverLockUp : Type 0
+MendsNeverLockUp =
+    (d : Declaration) (told : List Trial) (change : Trial)
+    → IsValid d → AreMends d told → Contains told change → (cert : Certificate) × machine.IsFree (network_of (left_by d change)) cert
+
+-- the same of units
+abbrev pub UnitMendsNeverLockUp : Type 0
+UnitMendsNeverLockUp =
+    (d : Declaration) (told : List Trial) (change : Trial)
+    → IsValid d → AreUnitMends d told → Contains told change → (cert : Certificate) × machine.IsFree (network_of (left_by d change)) cert
+
+-- the same of pairs, where both changes are made
+abbrev pub PairMendsNeverLockUp : Type 0
+PairMendsNeverLockUp =
+    (d : Declaration) (told : List Pair) (pair : Pair)
+    → IsValid d → ArePairMends d told → Contains told pair
+    → (cert : Certificate) × machine.IsFree (network_of (changed_by_all d (pair.first ∷ pair.second ∷ []))) cert

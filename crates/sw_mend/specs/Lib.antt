@@ -2,6 +2,8 @@ pub mod Changes
 pub mod Kinds
 pub mod Splits
 pub mod Mends
+pub mod SplitLaws
+pub mod ChangeLaws
 pub mod Limitings
 pub mod LimitingLaws
 pub mod Outstanding

@@ -1,8 +1,11 @@
 -- What holds of the limit and the slots that are told.
-use Rattle.std.specs.Prelude.{◌≡◌, ◌≢◌, ℕ, ◌<◌, ◌≤◌, Bool, true, false, [], List, Option, Some}
+use Rattle.std.specs.Prelude.{◌≡◌, ◌≢◌, ℕ, ◌<◌, ◌≤◌, true, false, [], Option, Some}
 use Rattle.sw_config.specs.Entries.{Declaration}
 use Rattle.sw_config.specs.Limits.{limit_at, may_make_wait}
 use Rattle.sw_config.specs.Valid.{IsValid}
+use Rattle.sw_machine.specs.Certificate.{Certificate}
+use Rattle.sw_machine.specs.DeadlockFreedom as machine
+use Rattle.sw_machine.specs.Model.{network_of}
 use Rattle.sw_search.specs.Laws.{RoutedAndFree}
 use Rattle.sw_mend.specs.Limitings.{FreesLimited, IsLimiting, Limiting, has_unlimited, limit_alone, limited_by, more_slots, with_slots}
 
@@ -29,3 +32,13 @@ WithSlotsNoneWaits = (d : Declaration) (n limit : ℕ) → IsValid d → limit_a
 -- what is told of a network is determined
 abbrev pub LimitingsAreDetermined : Type 0
 LimitingsAreDetermined = (d : Declaration) (told other : Option Limiting) → IsLimiting d told → IsLimiting d other → told ≡ other
+
+-- the limit and the slots that are told leave a valid network
+abbrev pub LimitingsKeepValid : Type 0
+LimitingsKeepValid = (d : Declaration) (told : Limiting) → IsValid d → IsLimiting d (Some told) → IsValid (limited_by d told)
+
+-- the network that they leave never locks up, over every run that keeps its limits on unanswered commands, and over every run where it has
+-- none
+abbrev pub LimitingsNeverLockUp : Type 0
+LimitingsNeverLockUp =
+    (d : Declaration) (told : Limiting) → IsValid d → IsLimiting d (Some told) → (cert : Certificate) × machine.IsFree (network_of (limited_by d told)) cert

@@ -1,5 +1,6 @@
 //! What holds of single changes and of pairs of them. These functions do nothing: each is the proof of what its clause says.
-ghost use Rattle.sw_mend.specs.Laws.{AllKeepValid, ChangesKeepValid, MendsAreDetermined, MendsAreThoseThatFree, MendsKeepValid, NoneChangesNothing, OneAloneIsAChange, PairsAreDetermined, PairsAreThoseThatFree, UnitMendsAreDetermined, UnitMendsAreThoseThatFree, UnitMendsKeepValid};
+ghost use Rattle.sw_mend.specs.Laws.{AllKeepValid, ChangesKeepValid, MendsAreDetermined, MendsAreThoseThatFree, MendsKeepValid, MendsNeverLockUp, NoneChangesNothing, OneAloneIsAChange, PairMendsNeverLockUp, PairsAreDetermined, PairsAreThoseThatFree, UnitMendsAreDetermined, UnitMendsAreThoseThatFree, UnitMendsKeepValid, UnitMendsNeverLockUp};
+ghost use Rattle.sw_mend.specs.LimitingLaws.{LimitingsNeverLockUp};
 
 /// A change is told exactly where it is one of the single changes of parts and frees the network.
 pub fn mends_are_those_that_free()
@@ -60,4 +61,13 @@ pub fn pairs_are_those_that_free()
 /// The pairs that are told of a network are determined.
 pub fn pairs_are_determined()
     ensures { PairsAreDetermined }
+{}
+
+/// No network that is told of ever locks up, over every run that keeps its limits on unanswered commands, and over every run where it has
+/// none: what a change of parts leaves, a change of units, a pair, and a limit with slots.
+pub fn mends_never_lock_up()
+    ensures parts { MendsNeverLockUp }
+    ensures units { UnitMendsNeverLockUp }
+    ensures pairs { PairMendsNeverLockUp }
+    ensures limits { LimitingsNeverLockUp }
 {}

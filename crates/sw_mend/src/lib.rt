@@ -2,6 +2,7 @@
 #![tactic(auto)]
 
 mod change;
+pub mod change_laws;
 mod flows;
 pub mod laws;
 mod limiting;
@@ -13,6 +14,7 @@ mod outstanding;
 mod pairs;
 mod parts;
 mod rebuilt;
+pub mod split_laws;
 mod splitting;
 mod tables;
 mod trials;

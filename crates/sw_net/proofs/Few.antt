@@ -19,7 +19,8 @@ use Rattle.sw_machine.proofs.Answering.{reply_length}
 use Rattle.sw_machine.proofs.Flows.{some_at}
 use Rattle.sw_machine.proofs.Headers.{length-path-le}
 use Rattle.sw_machine.proofs.DeclaredNetworks.{are_networks}
-use Rattle.sw_machine.specs.Model.{answered_to, network_of}
+use Rattle.sw_machine.specs.Model.{network_of}
+use Rattle.sw_machine.specs.Rmap.{answered_to}
 use Rattle.sw_config.proofs.FlowLaws.{valid_flows}
 use Rattle.sw_config.proofs.Flows.{All-at}
 use Rattle.sw_config.specs.Entries.{Declaration, LinkEntry, NodeEntry, all_flows, capacities, link_ends, target_of}
@@ -81,7 +82,7 @@ module _ (d : Declaration) (valid : IsValid d) where
   unfolding network_of
   reply_few n memory bytes end r lt is =
       let o = target_of d.nodes n in
-      let goes : option_map (λ (p : PendingReply). p.address) (answer_of o memory bytes end) ≡ answered_to o bytes = (are_networks d valid).reply_goes n memory bytes end lt in
+      let goes : option_map (λ (p : PendingReply). p.address) (answer_of o memory bytes end) ≡ answered_to o bytes = (are_networks d valid).answers.reply_goes n memory bytes end lt in
       let way : answered_to o bytes ≡ Some r.address = sym goes ∙ ap (option_map (λ (p : PendingReply). p.address)) is in
       let cargo = reply_length o memory bytes r end is in
       let longest = (node_few d.nodes n valid.nodes lt).0 in

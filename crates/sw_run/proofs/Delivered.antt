@@ -143,7 +143,7 @@ module _ (net : Network) where
         let same : h.reply ≡ r.reply = cc in
         let goes : h.reply.address ≡ (net.flow p.flow).address = ap (λ (a : PendingReply). a.address) same ∙ r.goes in
         let cargo : h.reply.cargo ≡ p.cargo = ap (λ (a : PendingReply). a.cargo) same ∙ sym r.cargo in
-        let end = ok.replies_end r.asked p.flow m w.memory w.bytes h.reply w.end r.in_flows h.in_net r.by w.answer goes in
+        let end = ok.answers.replies_end r.asked p.flow m w.memory w.bytes h.reply w.end r.in_flows h.in_net r.by w.answer goes in
         let never : net.reply_to (net.flow p.flow).to (left_bytes net p.flow p.cargo) ≡ None = subst (λ k. net.reply_to (net.flow p.flow).to (left_bytes net p.flow k) ≡ None) cargo end in
         let le = (ok.reply_flow r.asked p.flow r.in_flows r.by).after_declared in
         ap (count_by (is_answered_at net n test)) (ap replies_of b.2 ∙ ap (λ a. cond a (p ∷ []) []) (is_within net.declared_flows p.flow le))

@@ -33,4 +33,4 @@ pub use sw_net::{
     declared_net,
 };
 pub use sw_topo::limits::MAX_NUMBER;
-pub use writing::{add_entry, write_steps};
+pub use writing::{entry_text, write_steps};

@@ -13,11 +13,7 @@ use sw_machine::Step;
 use sw_text::MAX_TEXT;
 
 /// Adds the line of a step that is made so often, one time after another.
-///
-/// # Errors
-///
-/// There is no memory for the text.
-pub fn add_entry(
+fn add_entry(
     alloc: Global,
     network: &Network,
     step: &Step,
@@ -31,6 +27,24 @@ pub fn add_entry(
     }
     add_step(alloc, network, step, text)?;
     text.push_str("\n")
+}
+
+/// The line of a step that is made so often, one time after another.
+///
+/// # Errors
+///
+/// There is no memory for the text.
+pub fn entry_text(
+    alloc: Global,
+    network: &Network,
+    step: &Step,
+    count: u32,
+) -> Result<String, AllocError>
+    ensures { IfOk result (λ text. string_bytes text ≡ entry_line network.now (record { count = count; step = machine_step step.now })) }
+{
+    let mut text = String::new(alloc);
+    add_entry(alloc, network, step, count, &mut text)?;
+    Ok(text)
 }
 
 /// Whether the two are the same step.

@@ -1,18 +1,18 @@
 -- Exactly one verdict holds, and numbers rise exactly where there is no cycle.
-use Rattle.std.proofs.Common.{◌≡◌, ℕ, zero, suc, ◌+◌, ◌<◌, ◌≤◌, ◌⊎◌, List, length, ap, inl, inr, arith}
+use Rattle.std.proofs.Common.{◌≡◌, ℕ, zero, suc, ◌+◌, ◌<◌, ◌≤◌, ◌⊎◌, length, ap, inl, inr, arith}
 use Rattle.std.specs.Prelude.{slice_index}
 use Rattle.std.proofs.lemmas.List.Elements.{All-contains}
 use Rattle.sw_config.specs.Entries.{Declaration, all_flows}
 use Rattle.sw_flow.specs.Places.{ends_of}
 use Rattle.sw_flow.specs.Faults.{IsWellRouted}
-use Rattle.sw_graph.specs.Levels.{Chain, HasCycle, IsLevels}
-use Rattle.sw_graph.proofs.Existence.{levels_are_where_no_cycle_is, levels_rise}
+use Rattle.sw_graph.specs.Levels.{Chain, HasCycle}
+use Rattle.sw_graph.proofs.Existence.{levels_are_where_no_cycle_is}
 use Rattle.sw_search.specs.declared.verdict.Verdict.TheVariants.{Misrouted, Cyclic, Free}
 use Rattle.sw_search.specs.Laws.{OneVerdictHolds, RisingIsWhereNoCycleIs, RoutedAndCyclic, RoutedAndFree, SomeMisrouted, VerdictsTell}
 use Rattle.sw_search.specs.Verdicts.{AllWellRouted, depends}
 use Rattle.sw_search.proofs.Decided.{among, depends_decided, some_cycle, some_or_all}
 use Rattle.sw_search.proofs.Determined.{faulty}
-use Rattle.sw_search.proofs.Levels.{has_cycle}
+use Rattle.sw_search.proofs.Levels.{has_cycle, rising_by}
 use Rattle.sw_cert.proofs.Lists.{Contains-at}
 
 -- ---- numbers that rise
@@ -30,9 +30,6 @@ no_cycle_by dep number rising h =
     let around : Chain dep (suc h.0) c c = h.2 in
     let more = rises_over dep number rising (suc h.0) c c around in
     omega arith
-
-rising_by : (dep : ℕ → ℕ → Type 0) (n : ℕ) → ((c e : ℕ) → dep c e → (c < n) × (e < n)) → (levels : List ℕ) → IsLevels dep n levels → (c e : ℕ) → dep c e → slice_index levels c < slice_index levels e
-rising_by dep n among levels h c e step = let both = among c e step in levels_rise dep n levels h c e both.0 both.1 step
 
 pub rising_is_where_no_cycle_is : RisingIsWhereNoCycleIs
 rising_is_where_no_cycle_is d valid = (

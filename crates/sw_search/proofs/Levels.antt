@@ -2,7 +2,9 @@
 use Rattle.std.proofs.Common.{◌≡◌, ℕ, suc, ◌<◌, List, [], ◌∷◌, length, refl, sym, ◌∙◌, arith}
 use Rattle.std.specs.Prelude.{slice_index}
 use Rattle.sw_config.specs.Entries.{Declaration}
-use Rattle.sw_graph.specs.Levels.{Chain, HasCycle, IsLevel, IsLevels}
+use Rattle.sw_graph.specs.Laws.{IsAmong}
+use Rattle.sw_graph.specs.Levels.{HasCycle, IsLevel, IsLevels}
+use Rattle.sw_graph.proofs.Existence.{levels_rise}
 use Rattle.sw_graph.specs.Cycles.{IsShownCycle}
 use Rattle.sw_cycle.specs.Cycles.{CycleEntry, IsShown}
 use Rattle.sw_cycle.specs.Causes.{AreChosen}
@@ -11,13 +13,9 @@ use Rattle.sw_cycle.specs.Causes.{AreChosen}
 pub has_cycle : (dep : ℕ → ℕ → Type 0) (cycle : List ℕ) → IsShownCycle dep cycle → HasCycle dep
 has_cycle dep cycle h = let b = h.begins.member in (b.1, b.0, b.3)
 
--- levels rise
-pub rises : (dep : ℕ → ℕ → Type 0) (n : ℕ) (levels : List ℕ) → IsLevels dep n levels → (c e : ℕ) → c < n → e < n → dep c e → slice_index levels c < slice_index levels e
-rises dep n levels h c e lc le step =
-    let low = (h.each c lc).reached in
-    let more : Chain dep (suc (slice_index levels c)) low.0 e = (c, low.1, step) in
-    let top = (h.each e le).greatest (suc (slice_index levels c)) low.0 more in
-    omega arith
+-- levels rise along steps that are among the members
+pub rising_by : (dep : ℕ → ℕ → Type 0) (n : ℕ) → IsAmong dep n → (levels : List ℕ) → IsLevels dep n levels → (c e : ℕ) → dep c e → slice_index levels c < slice_index levels e
+rising_by dep n among levels h c e step = let both = among c e step in levels_rise dep n levels h c e both.0 both.1 step
 
 -- a level is determined
 same_level : (dep : ℕ → ℕ → Type 0) (c v w : ℕ) → IsLevel dep c v → IsLevel dep c w → v ≡ w

@@ -13,6 +13,8 @@ pub mod Determined
 pub mod Entered
 pub mod Paths
 pub mod Decided
+pub mod Listings
+pub mod Rising
 pub mod Exactly
 pub mod Waits
 pub mod CycleChannels

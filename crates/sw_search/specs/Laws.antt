@@ -3,7 +3,8 @@ use Rattle.std.specs.Prelude.{◌≡◌, ◌↔◌, ◌⊎◌, ℕ, Contains, No
 use Rattle.sw_config.specs.Entries.{FlowEntry, Declaration, all_flows}
 use Rattle.sw_config.specs.Valid.{IsValid}
 use Rattle.sw_flow.specs.Faults.{IsWellRouted}
-use Rattle.sw_machine.specs.Certificate.{IsAccepted}
+use Rattle.sw_machine.specs.Certificate.{Certificate, IsAccepted}
+use Rattle.sw_machine.specs.DeadlockFreedom as machine
 use Rattle.sw_machine.specs.Places.{IsRising}
 use Rattle.sw_cycle.specs.Model.{network_of}
 use Rattle.sw_graph.specs.Levels.{HasCycle}
@@ -88,3 +89,12 @@ VerdictsTell = (d : Declaration) (v : Verdict) → IsVerdict d v → StandsFor d
 -- there are numbers that rise along the dependencies exactly where these have no cycle
 abbrev pub RisingIsWhereNoCycleIs : Type 0
 RisingIsWhereNoCycleIs = (d : Declaration) → IsValid d → ((HasCycle (depends d) → ⊥) ↔ ((number : ℕ → ℕ) × IsRising (network_of d) number))
+
+-- a valid network in which each flow is well routed and no channels can wait for one another in a circle has a certificate that is accepted
+-- for it
+abbrev pub FreeIsCertified : Type 0
+FreeIsCertified = (d : Declaration) → IsValid d → RoutedAndFree d → (cert : Certificate) × IsAccepted (network_of d) cert
+
+-- so it never locks up, over every run that keeps the limits on unanswered commands, and over every run where there are none
+abbrev pub FreeNeverLocksUp : Type 0
+FreeNeverLocksUp = (d : Declaration) → IsValid d → RoutedAndFree d → (cert : Certificate) × machine.IsFree (network_of d) cert

@@ -1,5 +1,5 @@
 //! What verdicts show. These functions do nothing: each is the proof of what its clause says.
-ghost use Rattle.sw_search.specs.Laws.{CyclicIsShown, FreeIsAccepted, OneVerdictHolds, RisingIsWhereNoCycleIs, VerdictsAreDetermined, VerdictsTell};
+ghost use Rattle.sw_search.specs.Laws.{CyclicIsShown, FreeIsAccepted, FreeIsCertified, FreeNeverLocksUp, OneVerdictHolds, RisingIsWhereNoCycleIs, VerdictsAreDetermined, VerdictsTell};
 
 use sw_cert::acceptance_laws::not_refused_is_accepted;
 use sw_cycle::laws::shown_cycles_rule_out_rising;
@@ -34,4 +34,12 @@ pub fn one_verdict_holds()
 /// cycle.
 pub fn rising_is_where_no_cycle_is()
     ensures { RisingIsWhereNoCycleIs }
+{}
+
+/// A valid network in which each flow is well routed and no channels can wait for one another in a
+/// circle has a certificate that is accepted for it; so it never locks up, over every run that keeps
+/// the limits on unanswered commands, and over every run where there are none.
+pub fn free_networks_never_lock_up()
+    ensures certified { FreeIsCertified }
+    ensures never_locks_up { FreeNeverLocksUp }
 {}

@@ -8,7 +8,8 @@ use Rattle.std.specs.Ordering.{ordering_index}
 use Rattle.std.specs.declared.cmp.Ordering.TheVariants.{Equal, Greater, Less}
 use Rattle.sw_output.proofs.Counts.{tallies_fit, tallies_rise}
 use Rattle.sw_output.proofs.Order.{found_counted, missing_counted}
-use Rattle.sw_summary.specs.KeyCounts.{IsRising, Item, KeyCountView, counted, item_order, key_counts}
+use Rattle.sw_summary.specs.Items.{Item}
+use Rattle.sw_summary.specs.KeyCounts.{IsRising, KeyCountView, counted, item_order, key_counts}
 use Rattle.sw_summary.proofs.Order.{item_order_total}
 
 -- the keys before key k are counted, and key k is x

@@ -1,5 +1,12 @@
 pub mod Order
 pub mod Taken
+pub mod Same
+pub mod Left
+pub mod Different
+pub mod Walk
+pub mod Shares
+pub mod CountLaws
+pub mod RunsCounted
 pub mod Lists
 pub mod FlowSteps
 pub mod Written

@@ -10,7 +10,6 @@ use Rattle.std.specs.Prelude.{None, Option, Some, false, if◌then◌else◌, na
 use Rattle.std.specs.List.{flat_map, range_with_len}
 use Rattle.sw_char.specs.PacketView.{PacketView}
 use Rattle.sw_char.specs.declared.nchar.End.{End}
-use Rattle.sw_char.specs.declared.nchar.End.TheVariants.{Eop}
 use Rattle.sw_graph.proofs.Ranges.{range_from_more}
 use Rattle.sw_config.specs.Entries.{FlowEntry}
 use Rattle.sw_machine.specs.DeclaredPackets.{left_bytes}
@@ -20,10 +19,12 @@ use Rattle.sw_machine.specs.declared.step.Move.{Move}
 use Rattle.sw_machine.specs.declared.step.Move.TheVariants as move
 use Rattle.sw_machine.specs.declared.step.Step.{Step}
 use Rattle.sw_machine.specs.declared.step.Step.TheVariants as code
-use Rattle.sw_summary.specs.Counts.{all_keys, form_of, forms, items_at, key_of, of_flow, replies_at, replies_of, statuses, statuses_of, with_status}
+use Rattle.sw_summary.specs.Counts.{form_of, forms, item_at, items_at, of_flow, replies_at, replies_of, reply_at, statuses, statuses_of, with_status}
 use Rattle.sw_summary.specs.Replies.{is_reply, status_of}
-use Rattle.sw_summary.specs.KeyCounts.{Item, KeyCountView, taken, taken_all}
+use Rattle.sw_summary.specs.Items.{Item}
+use Rattle.sw_summary.specs.KeyCounts.{KeyCountView, taken_all}
 use Rattle.sw_summary.specs.Texts.{first_status_lines, status_line}
+use Rattle.sw_summary.proofs.Taken.{taken_append}
 
 -- a step that is no beginning begins nothing
 pub begins_nothing : (step : Step) → ((flow : ℕ) (cargo : Vec ℕ) (end : End) → step ≡ code.Begin flow cargo end → ⊥) → beginning (machine_step step) ≡ []
@@ -82,10 +83,6 @@ node_more text all n before here after q so_far line lt at is =
     ∙ ap (λ (l : List Item). flat_map (λ k. text k (get_or (map items_in all) k [])) (range_with_len 0 n) ++ l) same
     ∙ next_more (λ k. text k (get_or (map items_in all) k [])) n
 
-pub taken_append : (xs ys : List Item) (ts : List KeyCountView) → taken_all ts (xs ++ ys) ≡ taken_all (taken_all ts xs) ys
-taken_append [] ys ts = refl
-taken_append (x ∷ xs) ys ts = taken_append xs ys (taken x ts)
-
 -- the items of one flow more
 pub flow_more : (f : ℕ → List Item) (n : ℕ) (start before after : List KeyCountView) → before ≡ taken_all start (flat_map f (range_with_len 0 n)) → after ≡ taken_all before (f n)
     → after ≡ taken_all start (flat_map f (range_with_len 0 (n + 1)))
@@ -93,15 +90,12 @@ flow_more f n start before after so_far is =
     is ∙ ap (λ (ts : List KeyCountView). taken_all ts (f n)) so_far
     ∙ sym (taken_append (flat_map f (range_with_len 0 n)) (f n) start) ∙ ap (taken_all start) (next_more f n)
 
-abbrev at_node : ℕ → PacketView → Item
-at_node n p = record { node = n; packet = p }
-
 -- one packet more at a node
-pub packet_more : (n : ℕ) (packets : List PacketView) (i : ℕ) (q : PacketView) (k : Item) → i < length packets → q ≡ get_or packets i q → k ≡ record { node = n; packet = q }
+pub packet_more : (n : ℕ) (packets : List PacketView) (i : ℕ) (q : PacketView) (k : Item) → i < length packets → q ≡ get_or packets i q → k ≡ item_at n q
     → items_at n (take (i + 1) packets) ≡ items_at n (take i packets) ++ k ∷ []
 packet_more n packets i q k within at is =
     ap (items_at n) (take_more packets i q within ∙ ap (λ (p : PacketView). take i packets ++ p ∷ []) (sym at))
-    ∙ map-append (at_node n) (take i packets) (q ∷ []) ∙ ap (λ (p : Item). items_at n (take i packets) ++ p ∷ []) (sym is)
+    ∙ map-append (item_at n) (take i packets) (q ∷ []) ∙ ap (λ (p : Item). items_at n (take i packets) ++ p ∷ []) (sym is)
 
 -- the elements that are made of one more
 pub made_more : {A B : Type 0} (f : A → List B) (xs : List A) (i : ℕ) (x : A) (before here after : List B) → i < length xs → x ≡ get_or xs i x → before ≡ flat_map f (take i xs)
@@ -120,9 +114,8 @@ one_more_packet packets i q within at = take_more packets i q within ∙ ap (λ 
 reply_more : (n : ℕ) (packets : List PacketView) (i : ℕ) (q : PacketView) → i < length packets → q ≡ get_or packets i q
     → replies_at n (take (i + 1) packets) ≡ replies_at n (take i packets) ++ replies_at n (q ∷ [])
 reply_more n packets i q within at =
-    let key : PacketView → Item = λ p. record { node = n; packet = record { bytes = take 1 p.bytes; end = Eop } } in
     ap (replies_at n) (one_more_packet packets i q within at)
-    ∙ ap (map key) (replies_join (take i packets) (q ∷ [])) ∙ map-append key (replies_of (take i packets)) (replies_of (q ∷ []))
+    ∙ ap (map (reply_at n)) (replies_join (take i packets) (q ∷ [])) ∙ map-append (reply_at n) (replies_of (take i packets)) (replies_of (q ∷ []))
 
 status_of_more : (packets : List PacketView) (i : ℕ) (q : PacketView) → i < length packets → q ≡ get_or packets i q
     → statuses_of (take (i + 1) packets) ≡ statuses_of (take i packets) ++ statuses_of (q ∷ [])
@@ -150,49 +143,35 @@ module _ (packets : List PacketView) (i : ℕ) (q : PacketView) (within : i < le
       let one : statuses_of (q ∷ []) ≡ status_of q.bytes ∷ [] = ap (λ (b : Bool). map (λ (p : PacketView). status_of p.bytes) (if b then q ∷ [] else [])) is in
       grown start _ _ before _ after so_far (status_of_more packets i q within at) (more ∙ ap (λ (k : ℕ). before ++ k ∷ []) same ∙ ap (λ l. before ++ l) (sym one))
 
--- what is counted at a node
-abbrev pub keys_at : Bool → ℕ → List PacketView → List Item
-keys_at replies n packets = if replies then replies_at n packets else items_at n packets
+-- one packet more at a node, behind what was there
+pub packet_pushed : (n : ℕ) (packets : List PacketView) (i : ℕ) (q : PacketView) (k : Item) (start before after : List Item) → i < length packets → q ≡ get_or packets i q → k ≡ item_at n q
+    → before ≡ start ++ items_at n (take i packets) → after ≡ before ++ k ∷ [] → after ≡ start ++ items_at n (take (i + 1) packets)
+packet_pushed n packets i q k start before after within at is so_far more = grown start _ _ before (k ∷ []) after so_far (packet_more n packets i q k within at is) more
 
 abbrev listed : Option Item → List Item
 listed None = []
 listed (Some k) = k ∷ []
 
-keys_of_one : (replies : Bool) (n : ℕ) (q : PacketView) → keys_at replies n (q ∷ []) ≡ listed (key_of replies n q)
-keys_of_one false n q = refl
-keys_of_one true n q = go (is_reply q.bytes)
+reply_of_one : (n : ℕ) (q : PacketView) → replies_at n (q ∷ []) ≡ listed (if is_reply q.bytes then Some (reply_at n q) else None)
+reply_of_one n q = go (is_reply q.bytes)
   where
-    go : (b : Bool) → map (λ (p : PacketView). record { node = n; packet = record { bytes = take 1 p.bytes; end = Eop } }) (if b then q ∷ [] else [])
-        ≡ listed (if b then Some (record { node = n; packet = record { bytes = take 1 q.bytes; end = Eop } }) else None)
+    go : (b : Bool) → map (reply_at n) (if b then q ∷ [] else []) ≡ listed (if b then Some (reply_at n q) else None)
     go true = refl
     go false = refl
 
-keys_parted : (replies : Bool) (n : ℕ) (packets : List PacketView) (i : ℕ) (q : PacketView) → i < length packets → q ≡ get_or packets i q
-    → keys_at replies n (take (i + 1) packets) ≡ keys_at replies n (take i packets) ++ keys_at replies n (q ∷ [])
-keys_parted true n packets i q within at = reply_more n packets i q within at
-keys_parted false n packets i q within at = ap (items_at n) (one_more_packet packets i q within at) ∙ map-append (at_node n) (take i packets) (q ∷ [])
-
--- of one packet more, if something of it is counted and if nothing is
-pub key_more : (replies : Bool) (n : ℕ) (packets : List PacketView) (i : ℕ) (q : PacketView) (o : Option Item) (start before after : List Item) → i < length packets → q ≡ get_or packets i q
-    → o ≡ key_of replies n q → before ≡ start ++ keys_at replies n (take i packets) → after ≡ before ++ listed o → after ≡ start ++ keys_at replies n (take (i + 1) packets)
-key_more replies n packets i q o start before after within at is so_far more =
+-- the same of replies, if it is one and if it is none
+pub reply_pushed : (n : ℕ) (packets : List PacketView) (i : ℕ) (q : PacketView) (o : Option Item) (start before after : List Item) → i < length packets → q ≡ get_or packets i q
+    → o ≡ (if is_reply q.bytes then Some (reply_at n q) else None) → before ≡ start ++ replies_at n (take i packets) → after ≡ before ++ listed o → after ≡ start ++ replies_at n (take (i + 1) packets)
+reply_pushed n packets i q o start before after within at is so_far more =
     grown start _ _ before (listed o) after so_far
-    (keys_parted replies n packets i q within at ∙ ap (λ l. keys_at replies n (take i packets) ++ l) (keys_of_one replies n q ∙ sym (ap listed is))) more
+    (reply_more n packets i q within at ∙ ap (λ l. replies_at n (take i packets) ++ l) (reply_of_one n q ∙ sym (ap listed is))) more
 
-pub no_keys : (replies : Bool) (n : ℕ) (start : List Item) → start ≡ start ++ keys_at replies n []
-no_keys true n start = sym (append-nil start)
-no_keys false n start = sym (append-nil start)
-
-all_keys_are : (replies : Bool) (out : List (List PacketView)) → flat_map (λ n. keys_at replies n (get_or out n [])) (range_with_len 0 (length out)) ≡ all_keys replies out
-all_keys_are true out = refl
-all_keys_are false out = refl
-
-pub keys_done : (replies : Bool) (out : List (Vec PacketView)) (n : ℕ) (all : List Item) → length out ≤ n → n ≤ length out
-    → all ≡ flat_map (λ k. keys_at replies k (get_or (map items_in out) k [])) (range_with_len 0 n) → all ≡ all_keys replies (map items_in out)
-keys_done replies out n all ended inside so_far =
+-- what is listed of all nodes
+pub nodes_done : (f : ℕ → List PacketView → List Item) (out : List (Vec PacketView)) (n : ℕ) (all : List Item) → length out ≤ n → n ≤ length out
+    → all ≡ flat_map (λ k. f k (get_or (map items_in out) k [])) (range_with_len 0 n) → all ≡ flat_map (λ k. f k (get_or (map items_in out) k [])) (range_with_len 0 (length (map items_in out)))
+nodes_done f out n all ended inside so_far =
     let last : n ≡ length out = omega (arith, ended, inside) in
-    so_far ∙ ap (λ m. flat_map (λ k. keys_at replies k (get_or (map items_in out) k [])) (range_with_len 0 m)) (last ∙ sym (length-map out items_in))
-    ∙ all_keys_are replies (map items_in out)
+    so_far ∙ ap (λ m. flat_map (λ k. f k (get_or (map items_in out) k [])) (range_with_len 0 m)) (last ∙ sym (length-map out items_in))
 
 -- the packets of a flow, with one more that was begun of another
 pub form_kept : (f : FlowEntry) (n : ℕ) (begun : List Begun) (i : ℕ) (b : Begun) (before : List PacketView) → i < length begun → b ≡ get_or begun i b → (b.flow ≡ n → ⊥)

@@ -9,7 +9,8 @@ use Rattle.std.specs.List.Sorted.{IsNonDecreasingBy, IsPartitionPoint, IsStrictl
 use Rattle.std.specs.Ordering.{ordering_index}
 use Rattle.std.specs.declared.cmp.Ordering.{Ordering}
 use Rattle.std.specs.declared.cmp.Ordering.TheVariants.{Less, Equal, Greater}
-use Rattle.sw_summary.specs.KeyCounts.{IsRising, Item, KeyCountView, found, item_order, left, left_at, taken, taken_all, taken_at}
+use Rattle.sw_summary.specs.Items.{Item}
+use Rattle.sw_summary.specs.KeyCounts.{IsRising, KeyCountView, found, item_order, left, left_at, taken, taken_all, taken_at}
 use Rattle.sw_output.proofs.Order.{answers_rise, less_before, rises, turned}
 use Rattle.sw_summary.proofs.Order.{item_order_total}
 
@@ -125,6 +126,11 @@ taken_long p ts =
 pub taken_all_long : (items : List Item) (ts : List KeyCountView) → length (taken_all ts items) ≡ length ts
 taken_all_long [] ts = refl
 taken_all_long (p ∷ ps) ts = taken_all_long ps (taken p ts) ∙ taken_long p ts
+
+-- some and more
+pub taken_append : (xs ys : List Item) (ts : List KeyCountView) → taken_all ts (xs ++ ys) ≡ taken_all (taken_all ts xs) ys
+taken_append [] ys ts = refl
+taken_append (x ∷ xs) ys ts = taken_append xs ys (taken x ts)
 
 -- one item more
 pub found_more : (ts : List KeyCountView) (ps : List Item) (p : Item) → found ts (ps ++ p ∷ []) ≡ found ts ps + (if nat_lt 0 (left p (taken_all ts ps)) then 1 else 0)

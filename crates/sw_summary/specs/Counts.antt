@@ -1,5 +1,5 @@
 -- What a run did with the packets of its load (this project's choice).
-use Rattle.std.specs.Prelude.{Bool, List, None, Option, Some, [], ◌∷◌, ◌++◌, count_by, filter, flat_map, if◌then◌else◌, length, map, nat_eq, replicate, slice_get, slice_index_or, sum_by, take, ℕ, ◌==◌}
+use Rattle.std.specs.Prelude.{List, None, Option, Some, [], ◌∷◌, ◌++◌, count_by, filter, flat_map, if◌then◌else◌, length, map, nat_eq, replicate, slice_get, slice_index_or, sum_by, take, ℕ, ◌==◌}
 use Rattle.std.specs.List.{range_with_len}
 use Rattle.std.specs.Option.{option_map_or}
 use Rattle.sw_char.specs.PacketView.{PacketView}
@@ -10,7 +10,7 @@ use Rattle.sw_machine.specs.Begun.{Begun}
 use Rattle.sw_machine.specs.DeclaredPackets.{left_bytes}
 use Rattle.sw_summary.specs.Handlings.{handling_index, handling_of}
 use Rattle.sw_summary.specs.Replies.{is_reply, status_of}
-use Rattle.sw_summary.specs.KeyCounts.{Item, KeyCountView, found, taken_all}
+use Rattle.sw_summary.specs.Items.{Item, shares}
 use Rattle.sw_summary.specs.declared.handling.Handling.{Handling}
 use Rattle.sw_summary.specs.declared.handling.Handling.TheVariants.{Answered}
 
@@ -35,8 +35,11 @@ abbrev pub forms : FlowEntry → ℕ → List Begun → List PacketView
 forms f i begun = map (form_of f) (of_flow i begun)
 
 -- packets at a node
+abbrev pub item_at : ℕ → PacketView → Item
+item_at n p = record { node = n; packet = p }
+
 abbrev pub items_at : ℕ → List PacketView → List Item
-items_at n packets = map (λ p. record { node = n; packet = p }) packets
+items_at n packets = map (item_at n) packets
 
 -- the packets of flow i that were begun, at the node where the flow ends
 abbrev pub items_of : Declaration → List Begun → ℕ → List Item
@@ -50,12 +53,11 @@ items_before d begun i = flat_map (items_of d begun) (range_with_len 0 i)
 abbrev pub all_items : List (List PacketView) → List Item
 all_items out = flat_map (λ n. items_at n (slice_index_or out n [])) (range_with_len 0 (length out))
 
--- Of what came out, how many packets of flow i did where it ends: each packet that came out counts for one that was begun, first for those of
--- the first flow.
-abbrev pub delivered : Declaration → List Begun → List KeyCountView → ℕ → ℕ
-delivered d begun packets i = found (taken_all packets (items_before d begun i)) (items_of d begun i)
+-- how many packets of flow i came out where it ends: each that came out counts for one that was begun, first for those of the first flow
+abbrev pub delivered : Declaration → List Begun → List (List PacketView) → ℕ → ℕ
+delivered d begun out i = shares (all_items out) (items_before d begun i) (items_of d begun i)
 
--- how many packets of these have this handling at a target
+-- how many of these packets a target handles so
 abbrev pub handled_as : Handling → List PacketView → ℕ
 handled_as handling packets = count_by (λ p. handling_index (handling_of p.bytes) == handling_index handling) packets
 
@@ -78,25 +80,19 @@ asked_before d begun i = flat_map (asked_of d begun) (range_with_len 0 i)
 abbrev pub replies_of : List PacketView → List PacketView
 replies_of packets = filter (λ p. is_reply p.bytes) packets
 
+-- the replies at a node, each by its first byte, which is that address
+abbrev pub reply_at : ℕ → PacketView → Item
+reply_at n p = record { node = n; packet = record { bytes = take 1 p.bytes; end = Eop } }
+
 abbrev pub replies_at : ℕ → List PacketView → List Item
-replies_at n packets = map (λ p. record { node = n; packet = record { bytes = take 1 p.bytes; end = Eop } }) (replies_of packets)
+replies_at n packets = map (reply_at n) (replies_of packets)
 
 abbrev pub all_replies : List (List PacketView) → List Item
 all_replies out = flat_map (λ n. replies_at n (slice_index_or out n [])) (range_with_len 0 (length out))
 
--- what is counted of a packet at a node: itself, or, of replies, the reply by its first byte
-abbrev pub key_of : Bool → ℕ → PacketView → Option Item
-key_of replies n p =
-    if replies then (if is_reply p.bytes then Some (record { node = n; packet = record { bytes = take 1 p.bytes; end = Eop } }) else None)
-    else Some (record { node = n; packet = p })
-
--- all of one of both kinds, node by node
-abbrev pub all_keys : Bool → List (List PacketView) → List Item
-all_keys replies out = if replies then all_replies out else all_items out
-
--- of the replies that came out, how many answer commands of flow i: each counts for one that asked for it, first for those of the first flow
-abbrev pub answered : Declaration → List Begun → List KeyCountView → ℕ → ℕ
-answered d begun replies i = found (taken_all replies (asked_before d begun i)) (asked_of d begun i)
+-- how many commands of flow i were answered: each reply that came out counts for one that asked for it, first for those of the first flow
+abbrev pub answered : Declaration → List Begun → List (List PacketView) → ℕ → ℕ
+answered d begun out i = shares (all_replies out) (asked_before d begun i) (asked_of d begun i)
 
 -- the statuses of the replies among packets
 abbrev pub statuses_of : List PacketView → List ℕ

@@ -1,17 +1,12 @@
--- What came out of a network and is not counted yet (this project's choice).
+-- How the code counts: a walk over a sorted list of what came out and is not counted yet. What it finds is `shares` of specs/Items (proofs/Walk).
 use Rattle.std.specs.Prelude.{List, [], if◌then◌else◌, nat_lt, ℕ, ◌+◌, ◌-◌, ◌∷◌}
 use Rattle.std.specs.List.{fold}
 use Rattle.std.specs.Ordering.{nat_cmp, ordering_then}
 use Rattle.std.specs.declared.cmp.Ordering.{Ordering}
 use Rattle.std.specs.declared.cmp.Ordering.TheVariants.{Less, Equal, Greater}
-use Rattle.sw_char.specs.PacketView.{PacketView}
 use Rattle.sw_output.specs.Counting.{IsRisingBy, TallyOf, counted_by, tallies_by}
 use Rattle.sw_output.specs.Tallies.{packet_order}
-
--- a node, and a packet there
-pub record Item : Type 0 where
-  pub node : ℕ
-  pub packet : PacketView
+use Rattle.sw_summary.specs.Items.{Item}
 
 -- by node, and then as packets are
 abbrev pub item_order : Item → Item → Ordering

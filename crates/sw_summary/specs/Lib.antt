@@ -1,7 +1,9 @@
+pub mod Items
 pub mod KeyCounts
 pub mod Handlings
 pub mod Replies
 pub mod Counts
+pub mod Laws
 pub mod Texts
 pub mod Fills
 pub mod NotedFills

@@ -9,10 +9,9 @@ use Rattle.sw_load.specs.Load.{LoadEntry}
 use Rattle.sw_machine.specs.Begun.{Begun, beginnings}
 use Rattle.sw_machine.specs.Steps.{Step}
 use Rattle.sw_output.specs.Lines.{line, spaced}
-use Rattle.sw_summary.specs.Counts.{all_items, all_replies, with_status, answered, delivered, handled_as, forms, loaded, of_flow}
+use Rattle.sw_summary.specs.Counts.{with_status, answered, delivered, handled_as, forms, loaded, of_flow}
 use Rattle.sw_summary.specs.Handlings.{reason_text}
 use Rattle.sw_summary.specs.Replies.{status_name}
-use Rattle.sw_summary.specs.KeyCounts.{KeyCountView, key_counts}
 use Rattle.sw_summary.specs.declared.handling.Handling.{Handling}
 use Rattle.sw_summary.specs.declared.handling.Handling.TheVariants.{TooShort, OtherProtocol, WrongCrc, IsReply, NotAsked, NoWay}
 
@@ -34,25 +33,16 @@ flow_line name begun of_them came_out replies =
 abbrev pub replies_told : FlowEntry → ℕ → Option ℕ
 replies_told f count = if is_some f.reply then Some count else None
 
--- of flow i, if the load has a packet of it, where so many were begun, so many came out and so many were answered
-abbrev pub flow_text_where : List LoadEntry → ℕ → ℕ → ℕ → ℕ → FlowEntry → List ℕ
-flow_text_where load begun i came_out replies f =
+-- of flow i, if the load has a packet of it, where so many were begun, so many delivered and so many answered
+abbrev pub flow_text : List LoadEntry → ℕ → FlowEntry → ℕ → ℕ → ℕ → List ℕ
+flow_text load i f begun came_out replies =
     if nat_lt 0 (loaded i load) then flow_line f.name begun (loaded i load) came_out (replies_told f replies) else []
 
--- the same, where these packets were begun
-abbrev pub flow_text_of : List LoadEntry → List Begun → ℕ → ℕ → ℕ → FlowEntry → List ℕ
-flow_text_of load begun i came_out replies f = flow_text_where load (length (of_flow i begun)) i came_out replies f
-
-abbrev pub flow_text : Declaration → List LoadEntry → List Begun → ℕ → ℕ → ℕ → List ℕ
-flow_text d load begun came_out replies i = option_map_or (flow_text_of load begun i came_out replies) (slice_get d.flows i) []
-
--- of all flows, where this came out and these replies did
-abbrev pub flow_texts_from : Declaration → List LoadEntry → List Begun → List KeyCountView → List KeyCountView → List ℕ
-flow_texts_from d load begun packets replies =
-    flat_map (λ i. flow_text d load begun (delivered d begun packets i) (answered d begun replies i) i) (range_with_len 0 (length d.flows))
-
+-- of all flows, where these packets were begun and this came out
 abbrev pub flow_texts : Declaration → List LoadEntry → List Begun → List (List PacketView) → List ℕ
-flow_texts d load begun out = flow_texts_from d load begun (key_counts (all_items out)) (key_counts (all_replies out))
+flow_texts d load begun out =
+    flat_map (λ i. option_map_or (λ f. flow_text load i f (length (of_flow i begun)) (delivered d begun out i) (answered d begun out i)) (slice_get d.flows i) [])
+    (range_with_len 0 (length d.flows))
 
 -- how many replies with a status came out, if any
 abbrev pub status_line : ℕ → ℕ → List ℕ

@@ -2,13 +2,13 @@
 ghost use Rattle.std.specs.Prelude.{◌≡◌, ◌≤◌, ◌++◌, IfOk, length, map, string_bytes};
 ghost use Rattle.sw_summary.specs.Counts.{asked_by};
 ghost use Rattle.sw_summary.specs.KeyCounts.{IsRising, found, taken_all};
-ghost use Rattle.sw_summary.specs.Texts.{flow_text_where, flow_texts};
+ghost use Rattle.sw_summary.specs.Texts.{flow_text, flow_texts};
 
 use crate::begun::{Begun, count_loaded, forms};
 use crate::came_out::PacketKey;
 use crate::declared::declared_flow;
 use crate::handling::{Handling, handled_as};
-use crate::key_counts::{KeyCount, found_packets, found_times, key_counts};
+use crate::key_counts::{KeyCount, found_packets, found_times, packet_counts, reply_counts};
 use std::alloc::{AllocError, Global};
 use std::fmt::Write;
 use sw_char::{End, Packet};
@@ -43,7 +43,7 @@ fn add_line(
     answered: usize,
     text: &mut String,
 ) -> Result<(), AllocError>
-    ensures { IfOk result (λ _. string_bytes text.new ≡ string_bytes text.old ++ flow_text_where load.now begun number delivered answered flow.now) }
+    ensures { IfOk result (λ _. string_bytes text.new ≡ string_bytes text.old ++ flow_text load.now number flow.now begun delivered answered) }
 {
     let of_them = count_loaded(number, load);
     if of_them == 0 {
@@ -74,8 +74,8 @@ pub(crate) fn add_flows(
     requires { length out.now ≤ 1024 }
     ensures { IfOk result (λ _. string_bytes text.new ≡ string_bytes text.old ++ flow_texts network.now load.now begun.now (map (λ packets. packets.items) out.now)) }
 {
-    let mut packets = key_counts(alloc, out, false)?;
-    let mut replies = key_counts(alloc, out, true)?;
+    let mut packets = packet_counts(alloc, out)?;
+    let mut replies = reply_counts(alloc, out)?;
     for i in 0..network.declared_flows() {
         let flow = declared_flow(network, i);
         let all = forms(alloc, flow, i, begun)?;

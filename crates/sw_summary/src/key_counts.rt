@@ -1,10 +1,10 @@
 //! What came out of a network and is not counted yet.
 ghost use Rattle.std.specs.Prelude.{◌≡◌, ◌≤◌, ◌-◌, IfOk, if◌then◌else◌, length, map, nat_lt, replicate};
 ghost use Rattle.std.specs.List.Sorted.{IsBinarySearchResult, IsSearchInRange};
-ghost use Rattle.sw_summary.specs.Counts.{all_keys, items_at};
+ghost use Rattle.sw_summary.specs.Counts.{all_items, all_replies, items_at};
 ghost use Rattle.sw_summary.specs.KeyCounts.{IsRising, found, item_order, key_counts, left, taken, taken_all};
 
-use crate::came_out::{PacketKey, keys};
+use crate::came_out::{PacketKey, packet_keys, reply_keys};
 use std::alloc::{AllocError, Global};
 use std::cmp::Ordering;
 use std::marker::Model;
@@ -61,18 +61,12 @@ fn take(key_counts: &mut [KeyCount<'_>], key: &PacketKey<'_>) -> usize
     }
 }
 
-/// The different packets that came out, or replies, in rising order, each with how often it did.
-pub(crate) fn key_counts<'a>(
-    alloc: Global,
-    out: &'a [Vec<Packet>],
-    replies: bool,
-) -> Result<Vec<KeyCount<'a>>, AllocError>
-    requires { length out.now ≤ 1024 }
-    ensures { IfOk result (λ all. all.items ≡ key_counts (all_keys replies (map (λ packets. packets.items) out.now))) }
+/// The different keys in rising order, each with how often it is there.
+fn key_counts<'a>(alloc: Global, keys: &[PacketKey<'a>]) -> Result<Vec<KeyCount<'a>>, AllocError>
+    ensures { IfOk result (λ all. all.items ≡ key_counts keys.now) }
 {
-    let keys = keys(alloc, out, replies)?;
     let mut all = Vec::new(alloc);
-    for key in &keys {
+    for key in keys {
         match index_of(&all, key) {
             Ok(i) => all[i].count += 1,
             Err(i) => {
@@ -86,6 +80,30 @@ pub(crate) fn key_counts<'a>(
         }
     }
     Ok(all)
+}
+
+/// The different packets that came out, each with how often it did.
+pub(crate) fn packet_counts<'a>(
+    alloc: Global,
+    out: &'a [Vec<Packet>],
+) -> Result<Vec<KeyCount<'a>>, AllocError>
+    requires { length out.now ≤ 1024 }
+    ensures { IfOk result (λ all. all.items ≡ key_counts (all_items (map (λ packets. packets.items) out.now))) }
+{
+    let keys = packet_keys(alloc, out)?;
+    key_counts(alloc, &keys)
+}
+
+/// The different replies that came out, by their first byte.
+pub(crate) fn reply_counts<'a>(
+    alloc: Global,
+    out: &'a [Vec<Packet>],
+) -> Result<Vec<KeyCount<'a>>, AllocError>
+    requires { length out.now ≤ 1024 }
+    ensures { IfOk result (λ all. all.items ≡ key_counts (all_replies (map (λ packets. packets.items) out.now))) }
+{
+    let keys = reply_keys(alloc, out)?;
+    key_counts(alloc, &keys)
 }
 
 /// How many of the packets at the node find one that is not counted yet: each takes it.

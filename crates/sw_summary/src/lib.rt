@@ -10,6 +10,7 @@ mod fills;
 mod flow_lines;
 mod handling;
 mod key_counts;
+pub mod laws;
 mod replies;
 mod status_lines;
 mod summary;

@@ -1,7 +1,6 @@
-mod Confirmed
+pub mod Confirmed
 mod SameRuns
 mod NoReply
-mod Listings
 mod Taken
 pub mod Away
 mod NoLimits

@@ -24,10 +24,10 @@ use Rattle.sw_machine.proofs.Flows.{flow_at}
 use Rattle.sw_machine.proofs.DeclaredNetworks.{are_networks}
 use Rattle.sw_search.specs.Contents.{certificate_of}
 use Rattle.sw_search.proofs.Accepted.{accepted}
+use Rattle.sw_search.proofs.Listings.{certificate_exists}
 use Rattle.sw_witness.specs.Laws.{FreeWithoutNeverLocksUp}
 use Rattle.sw_witness.specs.OtherFlows.{DeclaresAll, NeverLocksUp}
 use Rattle.sw_witness.specs.Unanswered.{can_not_be_answered, never_answered, number_if, without_replies}
-use Rattle.sw_witness.proofs.Listings.{certificate_exists}
 use Rattle.sw_witness.proofs.NoReply.{none_is_answered}
 use Rattle.sw_witness.proofs.SameRuns.{freedom}
 use Rattle.sw_topo.proofs.Lists.{at_front}

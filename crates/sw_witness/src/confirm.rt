@@ -1,5 +1,5 @@
 //! Whether a schedule leads into a lock-up.
-ghost use Rattle.std.specs.Prelude.{IfOk, IsTrue};
+ghost use Rattle.std.specs.Prelude.{◌↔◌, IfOk, IsTrue};
 ghost use Rattle.sw_witness.specs.Witnesses.{LeadsToLockUp, LocksUp};
 
 use std::alloc::{AllocError, Global};
@@ -12,7 +12,7 @@ fn leads_to_lock_up(
     network: &Network,
     schedule: &Schedule,
 ) -> Result<bool, AllocError>
-    ensures { IfOk result (λ told. IsTrue told → LeadsToLockUp network.now schedule.now) }
+    ensures { IfOk result (λ told. IsTrue told ↔ LeadsToLockUp network.now schedule.now) }
 {
     let replayed = replay(alloc, network, schedule)?;
     match replayed.outcome {
@@ -27,7 +27,7 @@ fn leads_to_lock_up(
 ///
 /// There is no memory for the schedule, the network or what its steps store.
 pub fn locks_up(alloc: Global, network: &Network, text: &[u8]) -> Result<bool, AllocError>
-    ensures { IfOk result (λ told. IsTrue told → LocksUp network.now text.now) }
+    ensures { IfOk result (λ told. IsTrue told ↔ LocksUp network.now text.now) }
 {
     match read_steps(alloc, network, text) {
         Ok(schedule) => leads_to_lock_up(alloc, network, &schedule),

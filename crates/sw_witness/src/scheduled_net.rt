@@ -9,7 +9,7 @@ use sw_char::End;
 use sw_config::Network;
 use sw_flow::Place;
 use sw_machine::{Move, Step};
-use sw_schedule::{MAX_STEPS, Net, SwitchRoutes, Unanswered, add_entry, declared_net, make_step};
+use sw_schedule::{MAX_STEPS, Net, SwitchRoutes, Unanswered, declared_net, entry_text, make_step};
 use sw_topo::LinkEnd;
 use sw_topo::limits::MAX_CHANNELS;
 
@@ -39,6 +39,17 @@ fn bytes_left(network: &Network, flow: u16) -> usize {
     usize::from(network.flow(flow).left())
 }
 
+/// Adds the line of the step to the text of those that were made.
+fn add_line(
+    alloc: Global,
+    network: &Network,
+    step: &Step,
+    text: &mut String,
+) -> Result<(), AllocError> {
+    let line = entry_text(alloc, network, step, 1)?;
+    text.push_str(&line)
+}
+
 impl<'n> ScheduledNet<'n> {
     /// The network in its first state.
     pub(crate) fn new(alloc: Global, network: &'n Network) -> Result<ScheduledNet<'n>, AllocError> {
@@ -62,11 +73,10 @@ impl<'n> ScheduledNet<'n> {
             }
             match make_step(alloc, &mut self.net, &mut self.unanswered, &step) {
                 Ok(None) => {
-                    self.failed = add_entry(
+                    self.failed = add_line(
                         alloc,
                         self.net.network(),
                         &step,
-                        1,
                         &mut self.text,
                     ).is_err();
                     self.steps += 1;

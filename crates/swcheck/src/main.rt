@@ -5,7 +5,6 @@
 mod asked;
 mod call_end;
 mod commands;
-mod disk;
 mod found_hints;
 mod notes;
 mod noting_writer;
@@ -20,12 +19,14 @@ mod unread;
 use program::run_program;
 use std::io::IsTerminal;
 use std::process::ExitCode;
+use sw_engine::SystemFiles;
 use sw_graph::SideBySide;
 use sw_run::with_progress;
 
 /// On a terminal it shows, while the call goes on, for how long it has.
 fn main(rt: HostRuntime) -> ExitCode {
-    let run = || run_program(&rt, &SideBySide::new(&rt), &rt);
+    let files = SystemFiles { host: &rt };
+    let run = || run_program(&rt, &files, &SideBySide::new(&rt));
     let status = if rt.stderr().is_terminal() {
         with_progress(&rt, run)
     } else {

@@ -1,6 +1,13 @@
 //! The forms of answers that are objects of JSON, by the paths of the files.
-use crate::disk::RELEASE;
+use sw_args::{TOOLCHAIN, VERSION};
 use sw_json::ObjectForm;
+use sw_json_verdicts::Release;
+
+/// This release of the program, and the toolchain that it is made with.
+pub(crate) const RELEASE: Release<'static> = Release {
+    version: VERSION,
+    toolchain: TOOLCHAIN,
+};
 
 /// Of a command of one file.
 pub(crate) fn object<V>(values: V, path: &str) -> ObjectForm<'_, V> {

@@ -1,12 +1,15 @@
 //! Files that are read.
-use std::fs;
-use std::rt::Files;
+use sw_engine::FileSystem;
 
 /// Both files, if both can be opened.
-pub(crate) fn open_both<R: Files>(rt: &R, first: &str, second: &str) -> Option<(R::File, R::File)> {
-    let first = fs::open(rt, first).ok()?;
-    match fs::open(rt, second) {
-        Ok(second) => Some((first, second)),
-        Err(_) => None,
+pub(crate) fn open_both<F: FileSystem>(
+    files: &F,
+    first: &str,
+    second: &str,
+) -> Option<(F::Reader, F::Reader)> {
+    let first = files.open(first)?;
+    match files.open(second) {
+        Some(second) => Some((first, second)),
+        None => None,
     }
 }

@@ -14,18 +14,18 @@ use std::sync::Wait;
 use std::thread::Threads;
 use sw_args::{Asked, Call};
 use sw_calls::{Hints, given_call, given_texts, given_words, hints_of, no_hints, told_end};
+use sw_engine::SystemFiles;
 use sw_search::VerdictWorkers;
 use sw_text::Ended;
 
-/// Does what the words say that the program was given, and answers its status. `host` is the same as `rt`, by its own type:
-/// threads that read files want that, and an audit has its files from it.
+/// Does what the words say that the program was given, and answers its status. `files` opens the files that they name.
 pub(crate) fn run_program<
     R: Env + Files + Print + Eprint + AllocGlobal + Threads + Wait + Sync,
     C: VerdictWorkers,
->(rt: &R, workers: &C, host: &HostRuntime) -> u8 {
+>(rt: &R, files: &SystemFiles<'_, HostRuntime>, workers: &C) -> u8 {
     match given_texts(rt) {
         Ok(texts) => match given_words(rt, texts.as_slice()) {
-            Ok(words) => run_words(rt, workers, host, words.as_slice()),
+            Ok(words) => run_words(rt, files, workers, words.as_slice()),
             Err(status) => status,
         },
         Err(status) => status,
@@ -34,20 +34,20 @@ pub(crate) fn run_program<
 
 fn run_words<R: Files + Print + Eprint + AllocGlobal + Threads + Wait + Sync, C: VerdictWorkers>(
     rt: &R,
+    files: &SystemFiles<'_, HostRuntime>,
     workers: &C,
-    host: &HostRuntime,
     words: &[&str],
 ) -> u8 {
     match given_call(rt, words) {
-        Ok(asked) => run_asked(rt, workers, host, &asked).status(),
+        Ok(asked) => run_asked(rt, files, workers, &asked).status(),
         Err(status) => status,
     }
 }
 
 fn run_asked<R: Files + Print + Eprint + AllocGlobal + Threads + Wait + Sync, C: VerdictWorkers>(
     rt: &R,
+    files: &SystemFiles<'_, HostRuntime>,
     workers: &C,
-    host: &HostRuntime,
     asked: &Asked<'_>,
 ) -> Ended
     requires { HasWorkers asked.now.call }
@@ -57,7 +57,7 @@ fn run_asked<R: Files + Print + Eprint + AllocGlobal + Threads + Wait + Sync, C:
         return no_hints(rt);
     };
     let mut writer = NotingWriter::new("standard output", io::writer(rt));
-    let end = run_call(rt, workers, host, hints, call, &asked.files, &mut writer);
+    let end = run_call(rt, files, workers, hints, call, &asked.files, &mut writer);
     told_end(rt, end.ended);
     tell_more(rt, call, hints, end, writer.unwritten)
 }

@@ -11,7 +11,7 @@ use std::os::unix::fs::MetadataExt;
 use std::rt::Files;
 use std::sync::Wait;
 use std::thread::Threads;
-use sw_engine::{CommandEnd, Lines};
+use sw_engine::{CommandEnd, FileSystem, Lines};
 use sw_runs::{Open, Options, RunFinding, RunSchedule, RunValues, Wants, run_recorded};
 use sw_text::Ended;
 
@@ -119,14 +119,15 @@ pub(crate) fn is_schedule_read<R: Files>(rt: &R, job: &Job<'_>) -> bool {
 }
 
 /// Runs the load, and tells what comes of it. The schedule's file may be none of those that are read.
-pub(crate) fn run_load<'a, R: Files + AllocGlobal + Threads + Wait + Sync, W: Write>(
+pub(crate) fn run_load<'a, R: Files + AllocGlobal + Threads + Wait + Sync, F: FileSystem, W: Write>(
     rt: &R,
+    files: &F,
     job: &Job<'a>,
     writer: &mut NotingWriter<'a, W>,
 ) -> CommandEnd<RunFinding>
     requires { 0 < job.now.workers }
 {
-    match open_both(rt, job.network, job.load) {
+    match open_both(files, job.network, job.load) {
         Some((mut network, mut load)) => run_opened(rt, job, &mut network, &mut load, writer),
         None => CommandEnd::of_unread(),
     }

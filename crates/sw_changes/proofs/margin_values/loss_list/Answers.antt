@@ -10,7 +10,7 @@ pub loop-link-preserved : goal.loop-link-preserved
 loop-link-preserved c =
     losses_more c.args.network.now c.loop-link.link c.args.losses.now c.index-losses-link.result c.deref.result.now (map view c.loop-link.values.items)
     (map view c.add_value.new.values.items) c.loop-link-test.true c.index-losses-link.is c.deref.ensures.value c.loop-link.invariant
-    (added c.loss_value.result _ c.loop-link.values.items c.add_value.new.values.items c.loss_value.ensures c.in_ok-add_value.ensures)
+    (added c.loss_value.result _ c.loop-link.values.items c.add_value.new.values.items c.loss_value.ensures c.in_ok-add_value.ensures.added)
 
 pub returns : goal.returns
 returns c =

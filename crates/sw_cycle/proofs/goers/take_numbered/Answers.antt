@@ -68,7 +68,7 @@ loop-step-preserved c =
     let to = c.index-channels-step in
     let is = as_round d channels i from.result to.result c.loop-step-test.true from.is to.is (λ x y. IsTrue goes ↔ GoesOn d n x y) c.goes_on_from-goes.ensures in
     taken_more d channels n i c.loop-step.flows c.add_to_row.new.rows c.loop-step-test.true c.loop-step.invariant
-    (taken_at d channels n i goes c.loop-step.flows c.add_to_row.new.rows is c.in_ok-add_to_row.ensures)
+    (taken_at d channels n i goes c.loop-step.flows c.add_to_row.new.rows is c.in_ok-add_to_row.ensures.added)
 
 pub returns : goal.returns
 returns c =

@@ -13,7 +13,7 @@ loop-channel-preserved c =
     let turn = zip_turn c.args.channels.now c.args.causes.now c.loop-channel.yielded c.into_iter-channel-iterator.result c.loop-channel.channel-iterator c.next.new.self _ (cc) (cc) c.loop-channel.yielded_by _ c.in-Some.is c.next.ensures.steps in
     one_more_value (λ (p : ℕ × Cause). channel_value c.args.network.now (p.0, cause_of p.1)) _ _ _ _ _ _ _ _
     turn.0 turn.1 (turn.2 _) (turn.3 _) (length_push c.loop-channel.yielded _) c.loop-channel.invariant
-    (added c.channel_object-value.result _ c.loop-channel.values.items c.add_value.new.values.items (rw c.in_ok-cause_value.ensures at c.channel_object-value.ensures) c.in_ok-add_value.ensures)
+    (added c.channel_object-value.result _ c.loop-channel.values.items c.add_value.new.values.items (rw c.in_ok-cause_value.ensures at c.channel_object-value.ensures) c.in_ok-add_value.ensures.added)
 
 pub returns : goal.returns
 returns c =

@@ -6,7 +6,7 @@ use Rattle.sw_json.proofs.lists.text_values.Goals as goal
 pub loop-text-preserved : goal.loop-text-preserved
 loop-text-preserved c =
     one_more (λ t. string (string_bytes t)) c.args.texts.now c.loop-text.text-index c.text-item.result c.loop-text.values.items c.add_value.new.values.items
-    c.try_from_str.result c.loop-text.invariant c.loop-text-test.true c.text-item.is (spelled _ _ _ c.try_from_str.ensures c.as_str.ensures.value) c.in_ok-add_value.ensures
+    c.try_from_str.result c.loop-text.invariant c.loop-text-test.true c.text-item.is (spelled _ _ _ c.try_from_str.ensures c.as_str.ensures.value) c.in_ok-add_value.ensures.added
 
 pub returns : goal.returns
 returns c =

@@ -1,4 +1,4 @@
-use Rattle.std.proofs.Common.{ap, is_some, refl, ◌∙◌}
+use Rattle.std.proofs.Common.{ap, is_some, refl}
 use Rattle.sw_margin.specs.FlowLimits.{IsFlowLimit, own_limit}
 use Rattle.sw_margin.proofs.Picked.{chosen_told, not_chosen}
 use Rattle.sw_margin.proofs.limits.flow_limits.Goals as goal

@@ -11,4 +11,4 @@ loop-n-preserved c =
     values_more counted_node_value c.args.network.now c.args.all.now c.loop-n.n c.node_name-name.result.now (map view c.loop-n.values.items)
     (map view c.add_value.new.values.items) (counted_node_value c.node_name-name.result.now c.deref.result.now) c.index-all-n.result c.loop-n.invariant
     (ap (counted_node_value c.node_name-name.result.now) c.deref.ensures.value) c.node_name-name.ensures within c.index-all-n.is
-    (added c.counted_node_value.result _ c.loop-n.values.items c.add_value.new.values.items c.counted_node_value.ensures c.in_ok-add_value.ensures)
+    (added c.counted_node_value.result _ c.loop-n.values.items c.add_value.new.values.items c.counted_node_value.ensures c.in_ok-add_value.ensures.added)

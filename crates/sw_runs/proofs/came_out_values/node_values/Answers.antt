@@ -11,4 +11,4 @@ loop-n-preserved c =
     values_more node_value c.args.network.now c.args.all.now c.loop-n.n c.node_name-name.result.now (map view c.loop-n.values.items)
     (map view c.add_value.new.values.items) (node_value c.node_name-name.result.now c.deref.result.now) c.index-all-n.result c.loop-n.invariant
     (ap (node_value c.node_name-name.result.now) c.deref.ensures.value) c.node_name-name.ensures within c.index-all-n.is
-    (added c.node_value.result _ c.loop-n.values.items c.add_value.new.values.items c.node_value.ensures c.in_ok-add_value.ensures)
+    (added c.node_value.result _ c.loop-n.values.items c.add_value.new.values.items c.node_value.ensures c.in_ok-add_value.ensures.added)

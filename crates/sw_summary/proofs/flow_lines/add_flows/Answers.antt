@@ -1,7 +1,7 @@
 use Rattle.std.proofs.Common.{List, ap, map, string_bytes, ◌∙◌, ◌≡◌}
 use Rattle.sw_char.specs.PacketView.{PacketView}
 use Rattle.sw_summary.specs.Counts.{all_items, all_replies, asked_before, asked_by, items_at, items_before}
-use Rattle.sw_summary.specs.KeyCounts.{KeyCountView, found, key_counts, taken_all}
+use Rattle.sw_summary.specs.KeyCounts.{KeyCountView, found, taken_all}
 use Rattle.sw_summary.proofs.FlowSteps.{flow_counted, rest_rises, written_back}
 use Rattle.sw_summary.proofs.Lists.{items_in}
 use Rattle.sw_summary.proofs.flow_lines.add_flows.Goals as goal
@@ -42,6 +42,6 @@ loop-i-preserved c =
     written_back rs c.deref_mut-in-loop-i.result.now c.found_replies-answered.new.replies c.loop-i.replies.len (asked_by f all f.reply) c.deref_mut-in-loop-i.ensures.value
     (c.found_replies-answered.ensures.rest ∙ ap (λ (l : List PacketView). taken_all c.deref_mut-in-loop-i.result.now (asked_by f l f.reply)) c.deref-in-loop-i.ensures.value) c.loop-i.replies.ok.0
     in
-    flow_counted c.args.network.now c.args.load.now begun (key_counts (all_items (map items_in c.args.out.now))) (key_counts (all_replies (map items_in c.args.out.now))) c.loop-i.i
+    flow_counted c.args.network.now c.args.load.now begun (map items_in c.args.out.now) c.loop-i.i
     (string_bytes c.args.text.now) (string_bytes c.loop-i.text) (string_bytes c.add_line.new.text) f all ps rs _ _ to c.len.result c.found_packets-delivered.result c.found_replies-answered.result
     c.loop-i.invariant c.declared_flow-flow.ensures.flow c.in_ok-all.ensures c.to.ensures (c.len.ensures ∙ c.in_ok-all.all.ok.0) came left answers rest c.in_ok-add_line.ensures

@@ -2,7 +2,7 @@ use Rattle.std.proofs.Common.{List, None, Some, refl, rules, string_bytes, ◌++
 use Rattle.std.proofs.lemmas.Result.{IfOk-weaker}
 use Rattle.std.specs.Fmt.{decimal}
 use Rattle.std.specs.Prelude.{IfOk, codes}
-use Rattle.sw_summary.specs.Texts.{flow_text_where, replies_told}
+use Rattle.sw_summary.specs.Texts.{flow_text, replies_told}
 use Rattle.sw_summary.proofs.Written.{positive, told_flow}
 use Rattle.sw_summary.proofs.flow_lines.add_line.Goals as goal
 
@@ -19,7 +19,7 @@ returns-then-is_some c =
     ++ (codes " answered " ++ (decimal c.args.answered ++ codes "\n")))))))))
     in
     let written : IfOk c.write.result (λ u. after ≡ before ++ line) = search rules in
-    IfOk-weaker c.write.result (λ u. after ≡ before ++ line) (λ u. after ≡ before ++ flow_text_where c.args.load.now c.args.begun c.args.number c.args.delivered c.args.answered f)
+    IfOk-weaker c.write.result (λ u. after ≡ before ++ line) (λ u. after ≡ before ++ flow_text c.args.load.now c.args.number f c.args.begun c.args.delivered c.args.answered)
     (λ u added. told_flow before after c.name-name.result.now f.name c.args.begun _ of_them _ c.args.delivered (Some c.args.answered) _ some c.name-name.ensures refl
     c.count_loaded-of_them.ensures told added)
     written
@@ -37,7 +37,7 @@ returns c =
     ++ codes "\n")))))))
     in
     let written : IfOk c.write-2.result (λ u. after ≡ before ++ line) = search rules in
-    IfOk-weaker c.write-2.result (λ u. after ≡ before ++ line) (λ u. after ≡ before ++ flow_text_where c.args.load.now c.args.begun c.args.number c.args.delivered c.args.answered f)
+    IfOk-weaker c.write-2.result (λ u. after ≡ before ++ line) (λ u. after ≡ before ++ flow_text c.args.load.now c.args.number f c.args.begun c.args.delivered c.args.answered)
     (λ u added. told_flow before after c.name-name.result.now f.name c.args.begun _ of_them _ c.args.delivered None _ some c.name-name.ensures refl
     c.count_loaded-of_them.ensures told added)
     written

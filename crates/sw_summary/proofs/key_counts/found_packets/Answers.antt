@@ -1,7 +1,7 @@
 use Rattle.std.proofs.Common.{List, ap, arith, length, take, ℕ, ◌+◌, ◌<◌, ◌∙◌, ◌≡◌}
 use Rattle.sw_char.specs.PacketView.{PacketView}
 use Rattle.sw_summary.specs.Counts.{items_at}
-use Rattle.sw_summary.specs.KeyCounts.{Item}
+use Rattle.sw_summary.specs.Items.{Item}
 use Rattle.sw_summary.proofs.Lists.{packet_more}
 use Rattle.sw_summary.proofs.Taken.{one_taken}
 use Rattle.sw_summary.proofs.key_counts.found_packets.Goals as goal

@@ -119,8 +119,11 @@ module _ (d : Declaration) (valid : IsValid d) where
       let found = listing_exists (next_numbers d f) (start * width f) (number_bound d f) (next_below d f) in
       (map (place_of f) found.0, place_list d f start at found.0 found.1)
 
+  pub lists_exist : (lists : List (List Place)) × AllZip (IsPlaceList d) (all_flows d) lists
+  lists_exist = zip_exists (IsPlaceList d) (all_flows d) places_exist
+
   pub certificate_exists : RoutedAndFree d → (contents : Contents) × IsFree d contents
   certificate_exists free =
       let levels = (levels_are_where_no_cycle_is (depends d) (length (ends_of d)) (among d valid) (depends_decided d valid)).0 free.1 in
-      let lists = zip_exists (IsPlaceList d) (all_flows d) places_exist in
+      let lists = lists_exist in
       (record { numbers = levels.0; places = lists.0 }, record { routed = free.0; no_cycle = free.1; levels = levels.1; places = lists.1 })

@@ -1,0 +1,5 @@
+use Rattle.sw_mend.proofs.SplitFlows.{splits_move_commands}
+use Rattle.sw_mend.proofs.split_laws.splits_move_commands.Goals as goal
+
+pub returns : goal.returns
+returns c = splits_move_commands
