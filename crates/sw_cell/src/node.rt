@@ -222,10 +222,10 @@ pub fn can_step(network: &Network, n: u16, node: &NodeCell, wires: &Wires) -> bo
     wires.len(network.topology().into(n)) > 0
 }
 
-/// A step of node `n` that is possible, other than to begin a packet: the first in the order of
-/// [`NodeStep`].
+/// A step of node `n` that is possible, other than to begin a packet, if some is. Where several are,
+/// any of them may be told.
 #[inline(always)]
-pub fn first_possible(network: &Network, n: u16, node: &NodeCell, wires: &Wires) -> Option<NodeStep>
+pub fn possible_step(network: &Network, n: u16, node: &NodeCell, wires: &Wires) -> Option<NodeStep>
     requires node { IsNodeFor network.now n node.now }
     requires reached { HasNodeState (network_of network.now) n node.now wires.now }
     ensures { NodeHas (network_of network.now) n node.now wires.now result }

@@ -339,9 +339,9 @@ pub fn can_step<R: Routing, A: Arbiter>(
 }
 
 /// A step of the link end, which stands at switch `w`, that is possible, other than to grant its
-/// output: the first in the order of [`PortStep`].
+/// output, if some is. Where several are, any of them may be told.
 #[inline(always)]
-pub fn first_possible<R: Routing, A: Arbiter>(
+pub fn possible_step<R: Routing, A: Arbiter>(
     network: &Network,
     w: u16,
     end: LinkEnd,

@@ -43,7 +43,7 @@ pub length-link_ends : (links : List LinkEntry) → length (link_ends links) ≡
 length-link_ends [] = refl
 length-link_ends (l ∷ links) = omega (arith, length-link_ends links)
 
-link_ends-push : (links : List LinkEntry) (l : LinkEntry) → link_ends (links ++ l ∷ []) ≡ link_ends links ++ l.a ∷ l.b ∷ []
+pub link_ends-push : (links : List LinkEntry) (l : LinkEntry) → link_ends (links ++ l ∷ []) ≡ link_ends links ++ l.a ∷ l.b ∷ []
 link_ends-push [] l = refl
 link_ends-push (k ∷ links) l = ap (λ x. k.a ∷ k.b ∷ x) (link_ends-push links l)
 

@@ -1,5 +1,5 @@
 //! The nodes begin their packets.
-ghost use Rattle.std.specs.Prelude.{◌≡◌, ◌<◌, IfNone, IfOk, IfSome, Ok, OnErr, OnOk, length, slice_index, true};
+ghost use Rattle.std.specs.Prelude.{◌≡◌, ◌*◌, ◌<◌, IfNone, IfOk, IfSome, Ok, OnErr, OnOk, length, slice_index, true};
 ghost use Rattle.sw_history.specs.Way.{BeginsOne, IsReady, NoneIsReady};
 ghost use Rattle.sw_load.specs.Laws.{AreDeclared};
 ghost use Rattle.sw_machine.specs.Steps.{Begin};
@@ -54,6 +54,7 @@ fn begin_packet<R: Routing, A: Arbiter>(
     ensures made { OnOk result (NetAnswers net.old (Begin packet.now.flow packet.now.cargo packet.now.marker) (Ok tt) net.new) }
     ensures counted { OnOk result (HasCounted net.old unanswered.old (Begin packet.now.flow packet.now.cargo packet.now.marker) net.new unanswered.new) }
     ensures refused { OnErr result (net.new ≡ net.old) }
+    ensures uncounted { OnErr result (unanswered.new ≡ unanswered.old) }
 {
     let _network = net.network();
     let begin = beginning(alloc, packet)?;
@@ -69,7 +70,8 @@ fn begin_packet<R: Routing, A: Arbiter>(
     }
 }
 
-/// A node that can begins its next packet, if there is one: then the answer is yes.
+/// A node that can begins its next packet, if there is one: then the answer is yes. Where there is no
+/// memory for it, nothing has changed.
 pub(crate) fn begin_one<R: Routing, A: Arbiter>(
     alloc: Global,
     net: &mut Net<'_, R, A>,
@@ -84,6 +86,7 @@ pub(crate) fn begin_one<R: Routing, A: Arbiter>(
     ensures nodes { length begun.new ≡ length begun.old }
     ensures begins { IfOk result (λ made. BeginsOne senders.now.load net.old begun.old unanswered.old made net.new begun.new unanswered.new) }
     ensures refused { OnErr result (net.new ≡ net.old) }
+    ensures uncounted { OnErr result ((begun.new ≡ begun.old) × (unanswered.new ≡ unanswered.old)) }
 {
     let Some(node) = find_ready(net, senders, begun, unanswered) else {
         return Ok(false);

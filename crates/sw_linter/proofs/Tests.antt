@@ -21,10 +21,6 @@ or_mix false true true e = refl
 or_mix false true false e = refl
 or_mix false false c e = refl
 
-first_assoc : {A : Type 0} (a b c : Option A) → first_of (first_of a b) c ≡ first_of a (first_of b c)
-first_assoc None b c = refl
-first_assoc (Some x) b c = refl
-
 module _ {X : Type 0} where
   pub list_any_push : (p : X → Bool) (xs : List X) (y : X) → list_any p (xs ++ y ∷ []) ≡ list_any p xs || p y
   list_any_push p [] y = or_false (p y)

@@ -1,5 +1,5 @@
 -- A cargo text is read exactly where it spells bytes.
-use Rattle.std.proofs.Common.{◌≡◌, ℕ, suc, ◌+◌, ◌-◌, ◌*◌, ◌≤◌, ◌<◌, Bool, true, false, ◌&&◌, List, [], ◌∷◌, ◌++◌, length, drop, get_or, refl, sym, ap, subst, ◌∙◌, ◌⊎◌, drop-cons, eqb-true, arith, inl, inr, append_assoc, append-nil, Option, Some, None, not, take, cond, ne_eqb, eq-eqb}
+use Rattle.std.proofs.Common.{◌≡◌, ℕ, suc, ◌+◌, ◌-◌, ◌*◌, ◌≤◌, ◌<◌, true, false, ◌&&◌, List, [], ◌∷◌, ◌++◌, length, drop, get_or, refl, sym, ap, subst, ◌∙◌, ◌⊎◌, drop-cons, eqb-true, arith, inl, inr, append_assoc, append-nil, Option, Some, None, not, take, cond, ne_eqb, eq-eqb}
 use Rattle.std.specs.Prelude.{if◌then◌else◌, nat_le, ◌==◌, fold, option_and_then, option_map, replicate, slice_index}
 use Rattle.std.specs.List.{list_all}
 use Rattle.std.specs.Option.{option_to_list}
@@ -7,7 +7,7 @@ use Rattle.std.proofs.lemmas.List.{drop_all}
 use Rattle.std.proofs.lemmas.List.Elements.{filter_more}
 use Rattle.std.proofs.lemmas.Bool.{cases_Bool, and_parts, and_from, leb-true, le-leb}
 use Rattle.sw_load.specs.Cargo.{without_spaces, IsRepeated, CargoIsRead, cargo_of, bytes_of, is_repetition, repeated_of, hex_pair, ArePairs, is_digit, is_well_begun, IsCount, IsPairs, count_after, count_of, bytes_after, if_some_and_few, pairs_of}
-use Rattle.sw_config.proofs.Lists.{none_some}
+use Rattle.sw_config.proofs.Lists.{and_false, none_some}
 
 -- a character more that is kept, or left out as a space
 pub bare_kept : (text bare : List ℕ) (i : ℕ) → bare ≡ without_spaces (take i text) → i < length text → (get_or text i 0 ≡ 32 → ⊥) → bare ++ get_or text i 0 ∷ [] ≡ without_spaces (take (i + 1) text)
@@ -159,10 +159,6 @@ pairs_of_is_read text bytes p =
     let few : if_some_and_few bytes ≡ Some bytes = rw fits refl in
     ap (λ o. option_and_then if_some_and_few o) (pairs_are_read [] text bytes p.pairs) ∙ few
 
-and_no : (a b : Bool) → b ≡ false → (a && b) ≡ false
-and_no true b e = e
-and_no false b e = refl
-
 -- pairs have no `*`
 pairs_no_star : (t bytes : List ℕ) → ArePairs t bytes → is_repetition t ≡ false
 pairs_no_star [] bytes p = refl
@@ -176,7 +172,7 @@ pairs_no_star (h ∷ l ∷ c ∷ m ∷ rest) (b ∷ d ∷ bytes) p = elim (cases
       let star : c ≡ 42 = eqb-true c 42 t in
       let bad : hex_pair 42 m ≡ Some d = rw star at p.1.0 in
       absurd (none_some d bad)
-  | inr f ↦ and_no (nat_le 3 (length (h ∷ l ∷ c ∷ m ∷ rest))) (c == 42) f
+  | inr f ↦ and_false (nat_le 3 (length (h ∷ l ∷ c ∷ m ∷ rest))) (c == 42) f
 ]
 
 starred : (t : List ℕ) → is_repetition t ≡ true → t ≡ slice_index t 0 ∷ slice_index t 1 ∷ 42 ∷ drop 3 t

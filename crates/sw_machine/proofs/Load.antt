@@ -35,7 +35,7 @@ pub sum_add : {X : Type 0} (f g : X → ℕ) (xs : List X) → sum_by (λ x. f x
 sum_add f g [] = refl
 sum_add f g (x ∷ xs) = let r = sum_add f g xs in let a = sum_by-cons f x xs in let b = sum_by-cons g x xs in let c = sum_by-cons (λ x. f x + g x) x xs in omega arith
 
-sum_none : {X : Type 0} (xs : List X) → sum_by (λ x. 0) xs ≡ 0
+pub sum_none : {X : Type 0} (xs : List X) → sum_by (λ x. 0) xs ≡ 0
 sum_none [] = refl
 sum_none (x ∷ xs) = let r = sum_none xs in let a = sum_by-cons (λ x. 0) x xs in omega arith
 

@@ -1,18 +1,14 @@
 -- Which flows are told of as answered.
-use Rattle.std.proofs.Common.{◌≡◌, Bool, true, false, not, ℕ, ◌<◌, length, Option, None, Some, option_map, refl, sym, ap, ◌∙◌}
+use Rattle.std.proofs.Common.{◌≡◌, Bool, true, false, not, ℕ, ◌<◌, length, Option, Some, option_map, refl, sym, ap, ◌∙◌}
 use Rattle.std.specs.Option.{option_map_or}
 use Rattle.std.specs.Prelude.{is_some, slice_get, ◌&&◌}
 use Rattle.sw_config.specs.Entries.{FlowEntry, ReplyEntry, Declaration, all_flows, reply_flows}
-use Rattle.sw_topo.proofs.Lists.{in_front}
+use Rattle.sw_topo.proofs.Lists.{in_front, is_some-map}
 use Rattle.sw_margin.specs.Bends.{goes_one_way, is_answerable}
-
-is_some_mapped : {A B : Type 0} (g : A → B) (o : Option A) → is_some (option_map g o) ≡ is_some o
-is_some_mapped g None = refl
-is_some_mapped g (Some x) = refl
 
 module _ (d : Declaration) (i : ℕ) (f : FlowEntry) (here : slice_get (all_flows d) i ≡ Some f) (lt : i < length d.flows) {R : Type 0} (g : R → ReplyEntry) (reply : Option R) (is : option_map g reply ≡ f.reply) (none : Bool) (asked : is_some reply ≡ not none) where
   answered : is_some f.reply ≡ not none
-  answered = ap is_some (sym is) ∙ is_some_mapped g reply ∙ asked
+  answered = ap is_some (sym is) ∙ is_some-map g reply ∙ asked
 
   declared : option_map_or (is_answerable d) (slice_get d.flows i) false ≡ is_answerable d f
   declared = ap (λ (o : Option FlowEntry). option_map_or (is_answerable d) o false) (in_front d.flows (reply_flows d.flows) i f lt here)

@@ -5,7 +5,7 @@ use Rattle.std.specs.List.{AllZip}
 use Rattle.std.proofs.lemmas.Bool.{false≢true, ne_eqb}
 use Rattle.std.proofs.lemmas.List.Elements.{All-contains, All-contains_itself, All-filter, filter_passes}
 use Rattle.sw_topo.specs.Ports.{ports_of}
-use Rattle.sw_topo.proofs.Lists.{kept}
+use Rattle.sw_topo.proofs.Lists.{and_false, kept}
 use Rattle.sw_topo.proofs.PortBits.{port_set_members}
 use Rattle.sw_topo.proofs.PortWalk.{ports_listed}
 use Rattle.sw_route.specs.declared.look.Route.{Route}
@@ -127,10 +127,6 @@ module _ (make : ℕ → ℕ → Route → List Route) where
 first_false : (a b : Bool) → a ≡ false → (a && b) ≡ false
 first_false a b is = ap (λ c. c && b) is
 
-second_false : (a b : Bool) → b ≡ false → (a && b) ≡ false
-second_false true b is = is
-second_false false b is = refl
-
 both_true : (i j : ℕ) → (i == i && j == j) ≡ true
 both_true i j = λ t. eq-eqb i i refl t && eq-eqb j j refl t
 
@@ -143,13 +139,13 @@ table_changes_in_words d before after s above below r at is =
           (ap (by_number (switch_after (WithoutEntry i j)) 0) at
           ∙ one_table (route_after (WithoutEntry i j)) before after s above below r [] is
           (λ k e q other. ap (λ (b : Bool). if b then [] else q ∷ []) (first_false (k == i) (e == j) (ne_eqb k i other)))
-          (λ e q other. ap (λ (b : Bool). if b then [] else q ∷ []) (second_false (i == i) (e == j) (ne_eqb e j other)))
+          (λ e q other. ap (λ (b : Bool). if b then [] else q ∷ []) (and_false (i == i) (e == j) (ne_eqb e j other)))
           (ap (λ (b : Bool). if b then [] else r ∷ []) (both_true i j)));
       port = λ port. of_tables (WithoutPort i j port) d (before ++ record s { routes = above ++ record r { ports = ports_but port r.ports } ∷ below } ∷ after) (λ k f. refl)
           (ap (by_number (switch_after (WithoutPort i j port)) 0) at
           ∙ one_table (route_after (WithoutPort i j port)) before after s above below r (record r { ports = ports_but port r.ports } ∷ []) is
           (λ k e q other. ap (λ (b : Bool). record q { ports = if b then ports_but port q.ports else q.ports } ∷ []) (first_false (k == i) (e == j) (ne_eqb k i other)))
-          (λ e q other. ap (λ (b : Bool). record q { ports = if b then ports_but port q.ports else q.ports } ∷ []) (second_false (i == i) (e == j) (ne_eqb e j other)))
+          (λ e q other. ap (λ (b : Bool). record q { ports = if b then ports_but port q.ports else q.ports } ∷ []) (and_false (i == i) (e == j) (ne_eqb e j other)))
           (ap (λ (b : Bool). record r { ports = if b then ports_but port r.ports else r.ports } ∷ []) (both_true i j)));
     }
 

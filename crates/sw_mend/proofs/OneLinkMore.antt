@@ -1,19 +1,19 @@
 -- The channels of a network in which a node is split: those that there were, and the own link's.
-use Rattle.std.proofs.Common.{◌≡◌, ◌⊎◌, ℕ, ◌+◌, ◌*◌, ◌<◌, ◌&&◌, Bool, true, false, cond, eqb, List, [], ◌∷◌, ◌++◌, length, Option, Some, None, ap, arith, inl, inr, refl, sym, ◌∙◌, append_assoc, length-append, eq-eqb}
+use Rattle.std.proofs.Common.{◌≡◌, ◌⊎◌, ℕ, ◌+◌, ◌*◌, ◌<◌, ◌&&◌, Bool, false, cond, eqb, List, [], ◌∷◌, ◌++◌, length, Option, Some, None, ap, arith, inl, inr, refl, sym, ◌∙◌, append_assoc, length-append, eq-eqb}
 use Rattle.std.specs.Prelude.{position, slice_get, unwrap_or}
 use Rattle.std.proofs.lemmas.Bool.{ne_eqb}
-use Rattle.std.proofs.lemmas.Option.{none-some, same_Some, slice_get_within}
+use Rattle.std.proofs.lemmas.Option.{none-some, slice_get_within}
 use Rattle.sw_topo.specs.declared.place.PlaceEnd.{PlaceEnd}
 use Rattle.sw_topo.specs.declared.place.PlaceEnd.TheVariants.{Node, Switch}
 use Rattle.sw_topo.specs.Wiring.{is_node, is_port, out, out_of, partner}
 use Rattle.sw_topo.specs.Checked.{IsIn, first_of}
 use Rattle.sw_topo.proofs.Ends.{node_starts, partner_back, port_found, port_is}
-use Rattle.sw_topo.proofs.Lists.{at_front, in_front}
+use Rattle.sw_topo.proofs.Lists.{at_front, cond_some, first_of-assoc, in_front}
 use Rattle.sw_topo.proofs.Positions.{position_push}
-use Rattle.sw_config.specs.Entries.{LinkEntry, Declaration, link_ends, wiring_of}
+use Rattle.sw_config.specs.Entries.{Declaration, wiring_of}
 use Rattle.sw_config.specs.Valid.{IsValid}
 use Rattle.sw_config.proofs.Flows.{All-at, slice_get-append_right}
-use Rattle.sw_config.proofs.Steps.{length-link_ends}
+use Rattle.sw_config.proofs.Steps.{length-link_ends, link_ends-push}
 use Rattle.sw_flow.specs.Places.{ends_of, end_of, out_at}
 use Rattle.sw_flow.proofs.Partners.{partner_within}
 use Rattle.sw_mend.specs.Splits.{own_link, split}
@@ -23,17 +23,13 @@ use Rattle.sw_mend.proofs.SplitLinks.{IsFound}
 
 -- ---- the first place that passes, with two elements more
 
-first_twice : {A : Type 0} (o p q : Option A) → first_of (first_of o p) q ≡ first_of o (first_of p q)
-first_twice None p q = refl
-first_twice (Some x) p q = refl
-
 position_two : {X : Type 0} (p : X → Bool) (xs : List X) (y z : X)
     → position p (xs ++ y ∷ z ∷ []) ≡ first_of (position p xs) (first_of (cond (p y) (Some (length xs)) None) (cond (p z) (Some (length xs + 1)) None))
 position_two p xs y z =
     let one : length (xs ++ y ∷ []) ≡ length xs + 1 = length-append xs (y ∷ []) in
     ap (position p) (sym (append_assoc xs (y ∷ []) (z ∷ []))) ∙ position_push p (xs ++ y ∷ []) z
     ∙ (λ t. first_of (position_push p xs y t) (cond (p z) (Some (one t)) None))
-    ∙ first_twice (position p xs) (cond (p y) (Some (length xs)) None) (cond (p z) (Some (length xs + 1)) None)
+    ∙ first_of-assoc (position p xs) (cond (p y) (Some (length xs)) None) (cond (p z) (Some (length xs + 1)) None)
 
 first_kept : {A : Type 0} (o p : Option A) (x : A) → o ≡ Some x → first_of o p ≡ Some x
 first_kept None p x is = absurd (none-some x is)
@@ -43,14 +39,6 @@ first_kept (Some y) p x is = is
 pub one_of : {A : Type 0} (o p : Option A) (x : A) → first_of o p ≡ Some x → (o ≡ Some x) ⊎ ((o ≡ None) × (p ≡ Some x))
 one_of None p x is = inr (refl, is)
 one_of (Some y) p x is = inl is
-
-if_some : {A : Type 0} (b : Bool) (x y : A) → cond b (Some x) None ≡ Some y → (b ≡ true) × (x ≡ y)
-if_some true x y is = (refl, same_Some x y is)
-if_some false x y is = absurd (none-some y is)
-
-ends-push : (links : List LinkEntry) (l : LinkEntry) → link_ends (links ++ l ∷ []) ≡ link_ends links ++ l.a ∷ l.b ∷ []
-ends-push [] l = refl
-ends-push (k ∷ links) l = ap (λ x. k.a ∷ k.b ∷ x) (ends-push links l)
 
 pub same_switch : (s p t q : ℕ) → ◌≡◌ {A = Option PlaceEnd} (Some (Switch s p)) (Some (Switch t q)) → (s ≡ t) × (p ≡ q)
 same_switch s p t q e = (cc, cc)
@@ -72,7 +60,7 @@ module _ (d : Declaration) (link : TargetLink) (valid : IsValid d) (found : IsFo
   more = Node (own_node d) ∷ Switch link.switch link.port ∷ []
 
   grown : ends_of left ≡ ends_of d ++ more
-  grown = ends-push d.links (own_link (own_node d) link)
+  grown = link_ends-push d.links (own_link (own_node d) link)
 
   pub even : count ≡ 2 * length d.links
   even = length-link_ends d.links
@@ -127,7 +115,7 @@ module _ (d : Declaration) (link : TargetLink) (valid : IsValid d) (found : IsFo
       elim (one_of (out_of (ends_of d) s p) _ c (sym (port_now s p) ∙ is)) [
         | inl old ↦ inl old
         | inr new ↦
-            let own = if_some (is_port s p (Switch link.switch link.port)) (count + 1) c new.1 in
+            let own = cond_some (is_port s p (Switch link.switch link.port)) (count + 1) c new.1 in
             let same = same_switch link.switch link.port s p (ap Some (port_is s p (Switch link.switch link.port) own.0)) in
             inr (sym own.1, sym same.0, sym same.1)
       ]

@@ -1,9 +1,9 @@
 -- Commands that are delivered before a split and behind it come to the node by its port.
 use Rattle.std.proofs.Common.{◌≡◌, ◌≢◌, ◌⊎◌, ℕ, ◌+◌, ◌-◌, ◌<◌, ◌≤◌, Bool, true, false, List, length, Some, None, is_some, ap, arith, inl, inr, refl, subst, sym, ◌∙◌, eq-eqb}
-use Rattle.std.specs.Prelude.{◌==◌, IsBitSet, slice_get, slice_index, slice_index_or, slice_set, if◌then◌else◌}
+use Rattle.std.specs.Prelude.{◌==◌, IsBitSet, slice_get, slice_index_or, slice_set, if◌then◌else◌}
 use Rattle.std.specs.Option.{option_map_or}
 use Rattle.std.proofs.lemmas.Bool.{and_parts, cases_eq, cases_lt, eqb-true, le-ltb, lt-ltb, ne_eqb}
-use Rattle.std.proofs.lemmas.List.{get_or-set_other, get_or-set_same, length-set}
+use Rattle.std.proofs.lemmas.List.{get_or-set_same}
 use Rattle.std.proofs.lemmas.Option.{get_or_from_slice_get, same_Some, slice_get_cases, slice_get_within}
 use Rattle.sw_topo.specs.declared.place.PlaceEnd.{PlaceEnd}
 use Rattle.sw_topo.specs.declared.place.PlaceEnd.TheVariants.{Node, Switch}
@@ -29,7 +29,7 @@ use Rattle.sw_mend.specs.SplitLaws.CanArrive.{there, goes}
 use Rattle.sw_mend.specs.declared.change.TargetLink.{TargetLink}
 use Rattle.sw_mend.proofs.SplitLinks.{IsFound, found_in}
 use Rattle.sw_mend.proofs.OneLinkMore.{beside_low, end_kept, end_was, even, in_starts, node_ends, node_kept, node_low, not_switch, own_end, port_kept, port_was, same_switch, start_within}
-use Rattle.sw_mend.proofs.SplitPlaces.{elsewhere, other_left, step_kept, step_starts}
+use Rattle.sw_mend.proofs.SplitPlaces.{elsewhere, other_left, own_byte, own_length, step_kept, step_starts}
 use Rattle.sw_mend.proofs.SplitFlows.{declared_at, flow_in, free, low}
 
 -- ---- steps and arrivals
@@ -154,14 +154,8 @@ module _ (d : Declaration) (link : TargetLink) (valid : IsValid d) (found : IsFo
       abbrev command : FlowEntry
       command = to_own_node d link f last
 
-      size : length command.address ≡ length f.address
-      size = length-set f.address last link.port
-
       last_there : last < length f.address
       last_there = slice_get_within f.address last link.beside named
-
-      same_byte : (k : ℕ) → k ≢ last → slice_index command.address k ≡ slice_index f.address k
-      same_byte k other = get_or-set_other f.address last k link.port 0 other
 
       look_before : (s : ℕ) → look_after d f s last ≡ path_look link.beside
       look_before s =
@@ -184,7 +178,7 @@ module _ (d : Declaration) (link : TargetLink) (valid : IsValid d) (found : IsFo
                 absurd (omega (arith, past, is, le))
             | inr other ↦
                 next (early b j p (omega (arith, least, rise, le)))
-                (step_kept d link valid found is_free is_low f command b b j c k h.port h (end_kept d link valid found b _ h.ends) size (same_byte j other))
+                (step_kept d link valid found is_free is_low f command b b j c k h.port h (end_kept d link valid found b _ h.ends) (own_length d link f last) (own_byte d link f last j other))
           ]
 
       -- Were a packet at another switch with the byte that names the port: what is left of the address would lead it from the node's switch to the node,
@@ -236,9 +230,9 @@ module _ (d : Declaration) (link : TargetLink) (valid : IsValid d) (found : IsFo
                     | inr l ↦
                         let step = l.step in
                         let switch : step.switch ≡ link.switch = only_switch step.switch step.named.port (step.named.linked ∙ ap Some (only_own l.to l.ends)) in
-                        let all = as_many left command behind.routed (omega (arith, size, flow.left)) l.to l.left (next l.place step) l.ends in
+                        let all = as_many left command behind.routed (omega (arith, own_length d link f last, flow.left)) l.to l.left (next l.place step) l.ends in
                         let least = no_fewer (look_after left command step.switch l.deleted).delete l.deleted in
-                        let deleted : l.deleted ≡ last + 1 = omega (arith, all, size, size_is, least, step.deleted, l.no_less, many) in (
+                        let deleted : l.deleted ≡ last + 1 = omega (arith, all, own_length d link f last, size_is, least, step.deleted, l.no_less, many) in (
                           l.channel,
                           step.port,
                           subst (IsPlace left command l.channel) deleted l.place,
@@ -254,7 +248,7 @@ module _ (d : Declaration) (link : TargetLink) (valid : IsValid d) (found : IsFo
             let o = comes_there in
             let n = names_old in
             let look : look_after left command link.switch (last + 1) ≡ look_after d f link.switch (last + 1) =
-            ap (λ byte. look_of (routes_of d.switches link.switch) byte) (same_byte (last + 1) (λ e. omega (arith, e))) in
+            ap (λ byte. look_of (routes_of d.switches link.switch) byte) (own_byte d link f last (last + 1) (λ e. omega (arith, e))) in
             let step : Follows left command o.0 (last + 1) in_old (deleted_behind (look_after left command link.switch (last + 1)) (last + 1)) = record {
               switch = link.switch;
               port = o.1;

@@ -52,6 +52,13 @@ pub few_more : (b : Bool) (k : ℕ) → (if b then k + 1 else k) ≤ k + 1
 few_more true k = omega arith
 few_more false k = omega arith
 
+-- a command to the own node has as many address bytes, of which the last alone may be another one
+pub own_length : (d : Declaration) (link : TargetLink) (f : FlowEntry) (last : ℕ) → length (to_own_node d link f last).address ≡ length f.address
+own_length d link f last = length-set f.address last link.port
+
+pub own_byte : (d : Declaration) (link : TargetLink) (f : FlowEntry) (last k : ℕ) → k ≢ last → slice_index (to_own_node d link f last).address k ≡ slice_index f.address k
+own_byte d link f last k other = get_or-set_other f.address last k link.port 0 other
+
 module _ (d : Declaration) (link : TargetLink) (valid : IsValid d) (found : IsFound d link) (free : out_of (ends_of d) link.switch link.port ≡ None) (low : link.port < 32) where
   abbrev left : Declaration
   left = split d link
@@ -230,14 +237,8 @@ module _ (d : Declaration) (link : TargetLink) (valid : IsValid d) (found : IsFo
     abbrev in_own : ℕ
     in_own = in_at left (own_node d)
 
-    size : length command.address ≡ length f.address
-    size = length-set f.address last link.port
-
     last_there : last < length f.address
     last_there = slice_get_within f.address last link.beside comes.named
-
-    same_byte : (k : ℕ) → k ≢ last → slice_index command.address k ≡ slice_index f.address k
-    same_byte k other = get_or-set_other f.address last k link.port 0 other
 
     look_before : (s k : ℕ) → k ≡ last → look_after d f s k ≡ path_look link.beside
     look_before s k is =
@@ -276,7 +277,7 @@ module _ (d : Declaration) (link : TargetLink) (valid : IsValid d) (found : IsFo
         ]
 
     step_early : (c k e m : ℕ) (h : Follows d f c k e m) → k ≢ last → Follows left command c k e m
-    step_early c k e m h other = step_kept f command c c k e m h.port h (end_kept d link valid found c _ h.ends) size (same_byte k other)
+    step_early c k e m h other = step_kept f command c c k e m h.port h (end_kept d link valid found c _ h.ends) (own_length d link f last) (own_byte d link f last k other)
 
     early : (c k : ℕ) → IsPlace d f c k → k ≤ last → IsPlace left command c k
     early c k (start at) le = start (node_kept d link valid found f.from c at)
@@ -317,7 +318,7 @@ module _ (d : Declaration) (link : TargetLink) (valid : IsValid d) (found : IsFo
       switch = link.switch;
       port = p;
       ends = end_kept d link valid found c _ at;
-      bytes_left = omega (arith, is, last_there, size);
+      bytes_left = omega (arith, is, last_there, own_length d link f last);
       named = record {
         port = link.port;
         is_port = low;
@@ -377,7 +378,7 @@ module _ (d : Declaration) (link : TargetLink) (valid : IsValid d) (found : IsFo
                     let own = to_own a j c k h is here.0 in
                     (in_old, subst (IsPlace d f in_old) (sym own.1) (next place (last_step b j there.0 is there.1)), own.0 ∙ sym (instead_old in_old in_own in_old refl))
                 | inr other ↦
-                    elim (step_was f command b a j c k h.port h at size (same_byte j other)) [
+                    elim (step_was f command b a j c k h.port h at (own_length d link f last) (own_byte d link f last j other)) [
                       | inl step ↦
                           let now : IsPlace d f c k = next place step in
                           let one = few_more (look_after d f step.switch j).delete j in
@@ -385,7 +386,7 @@ module _ (d : Declaration) (link : TargetLink) (valid : IsValid d) (found : IsFo
                       | inr new ↦
                           let one = few_more (look_after left command h.switch j).delete j in
                           absurd (other_left left command (count + 1) k well (subst (λ x. IsPlace left command x k) new (next q h)) (back_end d link valid found)
-                          (λ e. omega (arith, le, other, one, h.deleted, e, size, comes.deleted)))
+                          (λ e. omega (arith, le, other, one, h.deleted, e, own_length d link f last, comes.deleted)))
                     ]
               ]
           | inr past ↦

@@ -65,13 +65,13 @@ impl<'n, R: Routing, A: Arbiter> Net<'n, R, A> {
         let network = self.network();
         match place {
             PlaceEnd::Node(n) => {
-                match node::first_possible(network, n, self.node(n), &self.wires) {
+                match node::possible_step(network, n, self.node(n), &self.wires) {
                     Some(first) => Some(Step::Move(node_step(network, n, first))),
                     None => None,
                 }
             }
             PlaceEnd::Switch(w, _) => {
-                match switch::first_possible(network, w, end, self.switch(w), &self.wires) {
+                match switch::possible_step(network, w, end, self.switch(w), &self.wires) {
                     Some(first) => Some(Step::Move(port_step(end, first))),
                     None => None,
                 }

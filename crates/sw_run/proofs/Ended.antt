@@ -1,5 +1,5 @@
 -- From the journal at the end of a run to the outcome.
-use Rattle.std.proofs.Common.{List, ap, arith, length, subst, sym, ℕ, ◌∙◌, ◌≡◌, ◌≤◌}
+use Rattle.std.proofs.Common.{List, ap, arith, length, subst, sym, ℕ, ◌∙◌, ◌≡◌, ◌≤◌, ◌<◌}
 use Rattle.sw_journal.proofs.Follows.{one_state_after}
 use Rattle.sw_journal.specs.Asked.{IsUndelivered}
 use Rattle.sw_journal.specs.Next.{AreKeptBack}
@@ -54,7 +54,7 @@ module _ (j : JournalView) (s : State) (o : Outcome) (leads : LeadsTo j s) (with
           kept_back = subst (λ l. AreKeptBack (network_of j.declared) (packets_of j.load) l s) (sym steps) (t.1 s leads);
         };
     full = λ e. let t = subst (EndsBy j) e ends in (as_long ∙ t.0, unfinished t.1 left);
-    memory = λ e. unfinished (subst (EndsBy j) e ends) left;
+    memory = λ e. let t = subst (EndsBy j) e ends in (subst (λ n. n < j.limit) (sym as_long) t.0, unfinished t.1 left);
   }
 
 -- the same of the network, load and limit that the journal is of

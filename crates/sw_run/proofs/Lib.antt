@@ -9,3 +9,4 @@ mod Named
 mod Out
 mod Policies
 mod Grants
+mod Noted

@@ -1,5 +1,5 @@
 -- What a journal tells at the end of a run.
-use Rattle.std.specs.Prelude.{List, length, ℕ, ◌≡◌}
+use Rattle.std.specs.Prelude.{List, length, ℕ, ◌<◌, ◌≡◌}
 use Rattle.sw_journal.specs.Asked.{IsDrained, IsKeptBack, IsStuck, IsWaiting}
 use Rattle.sw_journal.specs.Record.{JournalView, LeadsTo}
 use Rattle.sw_machine.specs.Packets.{Packet}
@@ -22,4 +22,4 @@ EndsBy j Drained = IsDrained j
 EndsBy j Stuck = IsStuck j
 EndsBy j Waiting = IsWaiting j × IsKeptBack j
 EndsBy j JournalFull = (length j.history ≡ j.limit) × IsOpen j
-EndsBy j Memory = IsOpen j
+EndsBy j Memory = (length j.history < j.limit) × IsOpen j

@@ -1,5 +1,5 @@
 -- What an outcome says.
-use Rattle.std.specs.Prelude.{List, Some, length, map, slice_get, ℕ, ◌≡◌, ◌≤◌}
+use Rattle.std.specs.Prelude.{List, Some, length, map, slice_get, ℕ, ◌<◌, ◌≡◌, ◌≤◌}
 use Rattle.sw_journal.specs.Next.{AreKeptBack, MayFollow}
 use Rattle.sw_load.specs.History.{IsHistory, IsWhole, packets_of}
 use Rattle.sw_load.specs.Load.{LoadEntry}
@@ -48,8 +48,8 @@ pub record IsKeptWaiting (d : Declaration) (load : List LoadEntry) (o : Outcome)
 -- The history is one of the load, no longer than the limit, and what the outcome tells is so in the state after it: what came out at each
 -- node, and how many characters are undelivered. Drained: the whole load was begun, and nothing is undelivered. Stuck: the network is locked
 -- up, and no step may follow. Waiting: nothing is undelivered, something of the load was not begun, and no step may follow, since the next packet
--- of each node that has one is kept back by the limit on unanswered commands. JournalFull: the history is as long as the limit. Both that and
--- Memory are told only of a run that is at none of these ends.
+-- of each node that has one is kept back by the limit on unanswered commands. JournalFull: the history is as long as the limit. Memory: it is
+-- shorter. Both are told only of a run that is at none of the ends before.
 pub record IsOutcome (d : Declaration) (load : List LoadEntry) (limit : ℕ) (o : Outcome) : Type 0 where
   pub state : State
   pub history : IsHistory (network_of d) (packets_of load) (steps_of o) state
@@ -60,4 +60,4 @@ pub record IsOutcome (d : Declaration) (load : List LoadEntry) (limit : ℕ) (o 
   pub stuck : o.stop ≡ Stuck → IsLockedUp (network_of d) state × NothingFollows (network_of d) (packets_of load) (steps_of o)
   pub waiting : o.stop ≡ Waiting → IsKeptWaiting d load o state
   pub full : o.stop ≡ JournalFull → (length o.history ≡ limit) × IsUnfinished d load o state
-  pub memory : o.stop ≡ Memory → IsUnfinished d load o state
+  pub memory : o.stop ≡ Memory → (length o.history < limit) × IsUnfinished d load o state

@@ -1,5 +1,5 @@
 //! What the workers of a run share.
-ghost use Rattle.std.specs.Prelude.{◌≡◌, ◌*◌, ◌<◌, All, IfSome, length, slice_get};
+ghost use Rattle.std.specs.Prelude.{◌≡◌, ◌*◌, ◌+◌, ◌<◌, All, IfOk, IfSome, OnOk, length, slice_get};
 ghost use Rattle.sw_config.specs.Entries.{wiring_of};
 ghost use Rattle.sw_run.specs.Cells.{IsCellOf};
 ghost use Rattle.sw_run.specs.Wanted.{cell_place};
@@ -115,6 +115,7 @@ fn add_slot<W: RunIdentity>(
 ) -> Result<(), AllocError>
     requires network { network.now ≡ W.declared }
     requires cell { IsCellOf W.declared W.name cell }
+    ensures { OnOk result (length all.new.items ≡ length all.old.items + 1) }
 {
     let cell = RunCell::new(alloc, network, cell)?;
     all.push(Slot {
@@ -132,6 +133,7 @@ pub(crate) fn lock_each<W: RunIdentity>(
 ) -> Result<Vec<Slot<W>>, AllocError>
     requires network { network.now ≡ W.declared }
     requires cells { All (IsCellOf W.declared W.name) cells.items }
+    ensures { IfOk result (λ all. length all.items ≡ length cells.items) }
 {
     let mut all = Vec::new(alloc);
     for cell in cells {

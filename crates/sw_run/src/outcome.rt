@@ -16,8 +16,8 @@ pub enum Stop {
     Waiting,
     /// The history is as long as it may be, and the run is not at its end.
     JournalFull,
-    /// Memory was wanted, for a step or for a worker. Clauses say that the run is at no other end, and
-    /// not that memory was refused.
+    /// Memory was wanted, for a step or for a worker. Clauses say that the history is shorter than it
+    /// may be and the run is at no other end, and not that memory was refused.
     Memory,
 }
 

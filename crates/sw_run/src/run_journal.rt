@@ -1,10 +1,12 @@
 //! The journal under its lock.
-ghost use Rattle.std.specs.Prelude.{◌≡◌, ◌*◌, ◌<◌, IfOk, IfSome, IsSome, Some, length, map, option_map, slice_get, []};
+ghost use Rattle.std.specs.Prelude.{◌≡◌, ◌⊎◌, ◌*◌, ◌<◌, IfNone, IfOk, IfSome, IsSome, None, Some, length, map, option_map, slice_get, []};
 ghost use Rattle.sw_journal.specs.Cells.{end_numbers};
 ghost use Rattle.sw_machine.specs.StepValues.{machine_step};
 ghost use Rattle.sw_run.specs.Ends.{AreOutBy, EndsBy};
 ghost use Rattle.sw_run.specs.Grants.{AdvancesAt, Begins, Takes};
+ghost use Rattle.sw_run.specs.Notes.{AreTrueNotes, IsAwake, IsMarkedAt};
 ghost use Rattle.sw_run.specs.Outcomes.{IsOutcome};
+ghost use Rattle.sw_run.specs.declared.outcome.Stop.TheVariants.{Memory};
 
 use crate::notes::Notes;
 use crate::outcome::{Outcome, Stop};
@@ -29,6 +31,7 @@ pub(crate) struct RunJournal<'a, W: RunIdentity> {
     ghost network_is: { network.now ≡ W.declared },
     ghost identity_is: { (journal.name ≡ W.name) × (journal.declared ≡ W.declared) × (journal.load ≡ W.load) × (journal.limit ≡ W.limit) },
     ghost limit_is: { limit ≡ W.limit },
+    ghost notes_are: { AreTrueNotes journal notes },
 }
 
 impl<'a, W: RunIdentity> RunJournal<'a, W> {
@@ -42,6 +45,7 @@ impl<'a, W: RunIdentity> RunJournal<'a, W> {
         requires network { network.now ≡ W.declared }
         requires identity { (journal.name ≡ W.name) × (journal.declared ≡ W.declared) × (journal.load ≡ W.load) × (journal.limit ≡ W.limit) }
         requires limit { limit ≡ W.limit }
+        requires notes { AreTrueNotes journal notes }
     {
         RunJournal {
             network,
@@ -76,6 +80,8 @@ impl<'a, W: RunIdentity> RunJournal<'a, W> {
         ensures cell { locked.new.cell.id ≡ locked.old.cell.id }
         ensures arbiters { locked.new.arbiters.items ≡ locked.old.arbiters.items }
     {
+        // Names the marks, none of which is at a length that is still to come.
+        let _count = self.journal.len();
         let sent = self.notes.sent_over(end, &step);
         let owing = owed_before(self.network, &self.journal, &step);
         let made = self.journal.commit(alloc, &mut locked.cell, step);
@@ -100,7 +106,11 @@ impl<'a, W: RunIdentity> RunJournal<'a, W> {
                 Step::Move(Move::Grant(_, _)) => self.grant(alloc, locked, end),
                 step => self.commit(alloc, locked, end, step),
             },
-            Ok(None) => self.notes.rest(),
+            Ok(None) => {
+                // Names the marks, one for each link end, which are true.
+                let _count = self.journal.len();
+                self.notes.rest()
+            }
             Err(_) => self.notes.end(Stop::Memory),
         }
     }
@@ -125,18 +135,37 @@ impl<'a, W: RunIdentity> RunJournal<'a, W> {
         }
     }
 
+    /// Why the run ended, by what the journal tells of the state in which it did. Want of memory is told
+    /// only where it was noted, or nothing was.
+    fn why(&self) -> Stop
+        ensures ends { EndsBy self.now.journal result }
+        ensures memory { result ≡ Memory → (self.now.notes.stop ≡ None) ⊎ (self.now.notes.stop ≡ Some Memory) }
+    {
+        if self.journal.is_drained() {
+            Stop::Drained
+        } else if self.journal.is_stuck() {
+            Stop::Stuck
+        } else if self.journal.is_waiting() {
+            Stop::Waiting
+        } else if self.journal.len() == self.limit {
+            Stop::JournalFull
+        } else {
+            Stop::Memory
+        }
+    }
+
     /// The outcome, at the end.
     pub(crate) fn outcome(self, alloc: Global) -> Result<Outcome<'a>, AllocError>
         ensures { IfOk result (IsOutcome W.declared W.load W.limit) }
     {
+        let stop = self.why();
         let RunJournal {
             network,
             journal,
-            limit,
-            notes,
+            limit: _,
+            notes: _,
             of: _,
         } = self;
-        let stop = why(&journal, notes.stop, limit);
         match all_came_out(alloc, &journal, network.nodes()) {
             Ok(came_out) => {
                 let undelivered = journal.undelivered();
@@ -185,36 +214,21 @@ fn awake_at(journal: &Journal<'_>, ends: u16, cell: &Cell, place: usize) -> Opti
     ensures at { IfSome result (λ end. option_map (λ p. p.0) (slice_get cell.now.ends place) ≡ Some end) }
     ensures within { IfSome result (λ end. end < 2 * length journal.now.declared.links) }
     ensures listed { IfSome result (λ end. IsSome (end_numbers cell.now.ends end)) }
+    ensures awake { IfSome result (IsAwake journal.now) }
+    ensures none { IfNone result (IsMarkedAt journal.now cell.now.ends place) }
 {
     let Some(at) = cell.ends().get(place) else {
         return None;
     };
     let end = at.0;
+    let count = journal.len() as u64;
     if end.number() >= ends {
         return None;
     }
-    if journal.mark(end) == Some(journal.len() as u64) {
+    if journal.mark(end) == Some(count) {
         return None;
     }
     Some(end)
-}
-
-/// Why the run ended, by what the journal tells of the state in which it did.
-fn why(journal: &Journal<'_>, stop: Option<Stop>, limit: usize) -> Stop
-    requires { limit ≡ journal.now.limit }
-    ensures { EndsBy journal.now result }
-{
-    if journal.is_drained() {
-        Stop::Drained
-    } else if journal.is_stuck() {
-        Stop::Stuck
-    } else if journal.is_waiting() {
-        Stop::Waiting
-    } else if matches!(stop, Some(Stop::JournalFull)) && journal.len() == limit {
-        Stop::JournalFull
-    } else {
-        Stop::Memory
-    }
 }
 
 /// Adds the packets that came out at each node.

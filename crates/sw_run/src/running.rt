@@ -2,6 +2,7 @@
 ghost use Rattle.std.specs.Prelude.{◌≡◌, ◌<◌, All, IfOk};
 ghost use Rattle.sw_load.specs.Laws.{AreDeclared};
 ghost use Rattle.sw_run.specs.Cells.{IsCellOf};
+ghost use Rattle.sw_run.specs.Notes.{AreTrueNotes};
 ghost use Rattle.sw_run.specs.Outcomes.{IsOutcome};
 
 use crate::gate::Gate;
@@ -65,6 +66,7 @@ fn run_named<'a, W: RunIdentity + Send + Sync, G: Gate + Sync, R: Threads + Wait
     requires identity { (journal.name ≡ W.name) × (journal.declared ≡ W.declared) × (journal.load ≡ W.load) × (journal.limit ≡ W.limit) }
     requires cells { All (IsCellOf W.declared W.name) cells.items }
     requires limit { limit ≡ W.limit }
+    requires notes { AreTrueNotes journal notes }
     requires some { 0 < workers }
     ensures { IfOk result (IsOutcome W.declared W.load W.limit) }
 {

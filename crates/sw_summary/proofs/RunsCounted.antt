@@ -14,7 +14,7 @@ use Rattle.sw_config.proofs.Flows.{All-at}
 use Rattle.sw_config.specs.Valid.{IsFlow, IsValid}
 use Rattle.sw_machine.proofs.DeclaredNetworks.{are_networks}
 use Rattle.sw_machine.proofs.Flows.{slice_get-append_left}
-use Rattle.sw_machine.proofs.Load.{of_beginning, run_sum, sum_le, sum_same}
+use Rattle.sw_machine.proofs.Load.{of_beginning, run_sum, sum_le, sum_same, sum_none}
 use Rattle.sw_machine.proofs.Whole.{count_sent, goes_to}
 use Rattle.sw_machine.specs.Begun.{AllComesOut, Begun, ComesOutWhole, RunOf, beginnings}
 use Rattle.sw_machine.specs.Model.{network_of}
@@ -27,7 +27,6 @@ use Rattle.sw_summary.specs.Laws.{AreOut, DrainedIsDelivered, WholeIsDelivered, 
 use Rattle.sw_summary.proofs.CountLaws.{all_begun_is_delivered, all_that_came_out_is_delivered, next_has, within_all}
 use Rattle.sw_summary.proofs.Different.{one_itself}
 use Rattle.sw_summary.proofs.Same.{one, same_is, times_cons}
-use Rattle.sw_summary.proofs.Shares.{sum_none}
 
 -- one number more
 below : (k n x : ℕ) → (if nat_lt k (n + 1) then x else 0) ≡ (if nat_lt k n then x else 0) + (if nat_eq k n then x else 0)

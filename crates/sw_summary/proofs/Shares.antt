@@ -6,7 +6,7 @@ use Rattle.std.proofs.lemmas.List.Sums.{sum_by-cons, sum_by-le-sum_by, sum_by_pu
 use Rattle.std.specs.List.{flat_map, range_with_len}
 use Rattle.std.specs.Prelude.{if◌then◌else◌, nat_lt}
 use Rattle.sw_graph.proofs.Ranges.{range_more}
-use Rattle.sw_machine.proofs.Load.{sum_add}
+use Rattle.sw_machine.proofs.Load.{sum_add, sum_none}
 use Rattle.sw_summary.specs.Items.{Item, different, is_same, share, shares, times}
 use Rattle.sw_summary.specs.KeyCounts.{KeyCountView, found, key_counts, taken, taken_all}
 use Rattle.sw_summary.specs.Laws.{common}
@@ -58,10 +58,6 @@ shares_common came begun = ap (λ (f : Item → ℕ). sum_by f (different begun)
   where
     all : (p : Item) → times p came - times p [] ≡ times p came
     all p = omega arith
-
-pub sum_none : {X : Type 0} (xs : List X) → sum_by (λ x. 0) xs ≡ 0
-sum_none [] = refl
-sum_none (x ∷ xs) = let sum = sum_by-cons (λ y. 0) x xs in let rest = sum_none xs in omega (arith, sum, rest)
 
 nothing : (b : Bool) (n : ℕ) → n ≡ 0 → (if b then n else 0) ≡ 0
 nothing true n none = none

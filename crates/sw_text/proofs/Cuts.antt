@@ -1,13 +1,10 @@
 -- A text is cut at its first such byte.
-use Rattle.std.proofs.Common.{◌≡◌, ℕ, ◌+◌, ◌≤◌, Bool, true, false, List, [], ◌∷◌, length, refl, sym, ap, ◌∙◌, inl, inr, arith, suc, take, drop, cond, Some, None}
+use Rattle.std.proofs.Common.{◌≡◌, ℕ, ◌+◌, ◌≤◌, Bool, true, false, List, [], ◌∷◌, length, refl, ap, ◌∙◌, inl, inr, arith, suc, take, drop, cond, Some, None}
 use Rattle.std.specs.Prelude.{◌==◌, position, nat_lt}
 use Rattle.std.specs.List.{position_or_len, onto_first, slice_split}
-use Rattle.std.proofs.lemmas.Bool.{false≢true, ltb-true, ltb-false, cases_Bool}
+use Rattle.std.proofs.lemmas.Bool.{ltb-true, ltb-false, cases_Bool}
 use Rattle.std.proofs.lemmas.List.Splits.{slice_split_first}
-
-some_of : {A : Type 0} (b : Bool) (x y : A) → cond b (Some x) None ≡ Some y → (b ≡ true) × (x ≡ y)
-some_of true x y e = let s : x ≡ y = cc in (refl, s)
-some_of false x y e = let bad : ◌≡◌ {A = Bool} true false = cc in absurd (false≢true (sym bad))
+use Rattle.sw_topo.proofs.Lists.{cond_some}
 
 none_of : {A : Type 0} (b : Bool) (x : A) → cond b (Some x) None ≡ None → b ≡ false
 none_of true x e = let bad : ◌≡◌ {A = Bool} true false = cc in bad
@@ -16,7 +13,7 @@ none_of false x e = refl
 -- what stands before the first, and what stands after it
 pub split_found : (byte : ℕ) (xs : List ℕ) (i : ℕ) → position (λ b. b == byte) xs ≡ Some i → slice_split (λ b. b == byte) xs ≡ take i xs ∷ slice_split (λ b. b == byte) (drop (i + 1) xs)
 split_found byte xs i e =
-    let h = some_of (nat_lt (position_or_len (λ b. b == byte) xs) (length xs)) (position_or_len (λ b. b == byte) xs) i e in
+    let h = cond_some (nat_lt (position_or_len (λ b. b == byte) xs) (length xs)) (position_or_len (λ b. b == byte) xs) i e in
     slice_split_first (λ b. b == byte) xs 0 (ltb-true _ _ h.0)
     ∙ ap (λ k. take k xs ∷ slice_split (λ b. b == byte) (drop (k + 1) xs)) h.1
 

@@ -1,5 +1,6 @@
 -- Lists, what may be there, tests and results, in general: what several crates need of them.
-use Rattle.std.proofs.Common.{◌≡◌, ◌≢◌, ℕ, zero, suc, ◌<◌, ◌↔◌, Bool, true, false, IsTrue, List, [], ◌∷◌, ◌++◌, length, take, drop, filter, get_or, ◌+◌, ◌&&◌, Option, Some, None, option_map, is_some, Contains, refl, sym, ap, ◌∙◌, inl, inr, arith}
+use Rattle.std.proofs.Common.{◌≡◌, ◌≢◌, ℕ, zero, suc, ◌<◌, ◌↔◌, Bool, true, false, IsTrue, List, [], ◌∷◌, ◌++◌, length, take, drop, filter, get_or, ◌+◌, ◌&&◌, cond, Option, Some, None, option_map, is_some, Contains, refl, sym, ap, ◌∙◌, inl, inr, arith}
+use Rattle.sw_topo.specs.Checked.{first_of}
 use Rattle.std.specs.Prelude.{Result, Ok, Err, OnErr, slice_get, slice_set}
 use Rattle.std.specs.List.{AllZip, flat_map}
 use Rattle.std.proofs.Math.Seq.{take-append_seam}
@@ -13,11 +14,25 @@ use Rattle.std.proofs.lemmas.Option.{same_Some}
 pub none_some : {A : Type 0} (x : A) → ◌≡◌ {A = Option A} None (Some x) → ⊥
 none_some x e = cc
 
+-- the first of three, however they are grouped
+pub first_of-assoc : {A : Type 0} (o p q : Option A) → first_of (first_of o p) q ≡ first_of o (first_of p q)
+first_of-assoc None p q = refl
+first_of-assoc (Some x) p q = refl
+
+-- what is there by a test, where the test passes
+pub cond_some : {A : Type 0} (b : Bool) (x y : A) → cond b (Some x) None ≡ Some y → (b ≡ true) × (x ≡ y)
+cond_some true x y is = (refl, same_Some x y is)
+cond_some false x y is = absurd (none_some y is)
+
 pub is_some-map : {A B : Type 0} (f : A → B) (o : Option A) → is_some (option_map f o) ≡ is_some o
 is_some-map f None = refl
 is_some-map f (Some x) = refl
 
 -- ---- tests
+
+pub and_false : (a b : Bool) → b ≡ false → (a && b) ≡ false
+and_false true b is = is
+and_false false b is = refl
 
 -- tests that pass together are the same
 pub same_bool : (a b : Bool) → (a ≡ true → b ≡ true) → (b ≡ true → a ≡ true) → a ≡ b

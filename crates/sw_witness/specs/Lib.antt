@@ -2,3 +2,4 @@ pub mod Witnesses
 pub mod OtherFlows
 pub mod Unanswered
 pub mod Laws
+pub mod Notes

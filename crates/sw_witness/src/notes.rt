@@ -1,4 +1,7 @@
 //! Lines of a schedule that a replay passes over: what its packets are sent for.
+ghost use Rattle.std.specs.Prelude.{◌≡◌, ◌++◌, ◌<◌, IfOk, length, string_bytes};
+ghost use Rattle.sw_config.specs.Entries.{wiring_of};
+ghost use Rattle.sw_witness.specs.Notes.{line_of, note_line};
 
 use crate::leg::Leg;
 use std::alloc::{AllocError, Global};
@@ -6,35 +9,59 @@ use sw_config::Network;
 use sw_output::{channel_text, node_name};
 use sw_topo::{Chan, PlaceEnd};
 
-/// What stands in the note of a flow, whose packets are to hold the one channel and to wait for the other.
-pub(crate) const OF_FLOW: [&str; 3] = ["# a packet of ", " is to hold ", " and to wait for "];
+/// What is to hold a channel and to wait for another.
+#[derive(Clone, Copy)]
+pub(crate) enum Holder {
+    /// A packet of a flow.
+    Flow,
+    /// A target, which is to take nothing from the one until its reply has left on the other.
+    Target,
+}
 
-/// What stands in the note of a target, which is to take nothing from the one channel until a reply has left on the other.
-pub(crate) const OF_TARGET: [&str; 3] = [
-    "# ",
-    " is to take nothing from ",
-    " until its reply has left on ",
-];
+/// Adds the line that says what is to hold the one channel, of this text, and to wait for the other.
+fn add_line(
+    holder: Holder,
+    name: &str,
+    held: &str,
+    wanted: &str,
+    text: &mut String,
+) -> Result<(), AllocError>
+    ensures { IfOk result (λ _. string_bytes text.new ≡ string_bytes text.old ++ line_of holder name.now held.now wanted.now) }
+{
+    match holder {
+        Holder::Flow => write!(
+            text,
+            "# a packet of {name} is to hold {held} and to wait for {wanted}\n"
+        ),
+        Holder::Target => write!(
+            text,
+            "# {name} is to take nothing from {held} until its reply has left on {wanted}\n"
+        ),
+    }
+}
 
-/// Adds a line with these words, the name behind the first of them, and a channel behind each other; nothing where the network has no
-/// such channel.
+/// Adds the line that says what is to hold the one channel and to wait for the other; nothing where the network has no such channel.
 pub(crate) fn note(
     alloc: Global,
     network: &Network,
-    words: [&str; 3],
+    holder: Holder,
     name: &str,
     from: Chan,
     to: Chan,
     text: &mut String,
-) -> Result<(), AllocError> {
-    let [begun, held, wanted] = words;
+) -> Result<(), AllocError>
+    ensures { IfOk result (λ _. from < length (wiring_of network.now).ends → to < length (wiring_of network.now).ends → string_bytes text.new ≡ string_bytes text.old ++ note_line network.now holder name.now from to) }
+{
     let channels = network.channels();
-    if from.number() >= channels || to.number() >= channels {
+    if from.number() >= channels {
         return Ok(());
     }
-    let from = channel_text(alloc, network, from)?;
-    let to = channel_text(alloc, network, to)?;
-    write!(text, "{begun}{name}{held}{from}{wanted}{to}\n")
+    if to.number() >= channels {
+        return Ok(());
+    }
+    let held = channel_text(alloc, network, from)?;
+    let wanted = channel_text(alloc, network, to)?;
+    add_line(holder, name, &held, &wanted, text)
 }
 
 /// Adds a line for the leg: of the flow whose packet holds its channel, or of the target at its end.
@@ -53,7 +80,7 @@ pub(crate) fn note_leg(
             note(
                 alloc,
                 network,
-                OF_FLOW,
+                Holder::Flow,
                 network.flow(flow).name(),
                 from,
                 to,
@@ -64,7 +91,7 @@ pub(crate) fn note_leg(
             note(
                 alloc,
                 network,
-                OF_TARGET,
+                Holder::Target,
                 node_name(network, node),
                 from,
                 to,

@@ -3,7 +3,7 @@ ghost use Rattle.std.specs.Prelude.{◌<◌, length};
 ghost use Rattle.sw_config.specs.Entries.{all_flows};
 
 use crate::load::Load;
-use crate::notes::{OF_FLOW, OF_TARGET, note};
+use crate::notes::{Holder, note};
 use crate::random::Random;
 use crate::way::way_onto;
 use crate::worm::{long_cargo, short_cargo};
@@ -110,7 +110,7 @@ fn plan_flow(
         return Ok(());
     }
     let entry = network.flow(flow);
-    note(alloc, network, OF_FLOW, entry.name(), from, to, text)?;
+    note(alloc, network, Holder::Flow, entry.name(), from, to, text)?;
     if flow >= network.declared_flows() {
         return plan_replies(alloc, network, flow, placing);
     }
@@ -150,7 +150,7 @@ fn plan_target(
     note(
         alloc,
         network,
-        OF_TARGET,
+        Holder::Target,
         node_name(network, node),
         from,
         to,

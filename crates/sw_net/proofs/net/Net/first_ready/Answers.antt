@@ -20,11 +20,11 @@ use Rattle.sw_topo.specs.Checked.{IsIn}
 pub node-requires : goal.node-requires
 node-requires g c = subst (IsIn (length c.args.self.now.declared.nodes) (length c.args.self.now.declared.switches)) c.in-Node.is c.requires.inside
 
-pub first_possible-requires-clause-node : goal.first_possible-requires-clause-node
-first_possible-requires-clause-node g c = subst (λ (d : Declaration). IsNodeFor d c.in-Node.n c.node.result.now) (sym c.network-network.ensures.network) (c.network-network.ensures.sound.nodes c.in-Node.n c.node.result.now c.node.ensures)
+pub possible_step-requires-clause-node : goal.possible_step-requires-clause-node
+possible_step-requires-clause-node g c = subst (λ (d : Declaration). IsNodeFor d c.in-Node.n c.node.result.now) (sym c.network-network.ensures.network) (c.network-network.ensures.sound.nodes c.in-Node.n c.node.result.now c.node.ensures)
 
-pub first_possible-requires-clause-reached : goal.first_possible-requires-clause-reached
-first_possible-requires-clause-reached g c =
+pub possible_step-requires-clause-reached : goal.possible_step-requires-clause-reached
+possible_step-requires-clause-reached g c =
     let v = c.args.self.now in
     subst (λ (d : Declaration). HasNodeState (network_of d) c.in-Node.n c.node.result.now c.self.inside.wires) (sym c.network-network.ensures.network)
     (subst (λ (k : NetView g.row.R.Denot g.row.A.Denot). HasNodeState (network_of v.declared) c.in-Node.n c.node.result.now k.between) (sym c.self.view_is)
@@ -53,30 +53,30 @@ returns-in-None g c =
 pub switch-requires : goal.switch-requires
 switch-requires g c = (subst (IsIn (length c.args.self.now.declared.nodes) (length c.args.self.now.declared.switches)) c.in-Switch.is c.requires.inside).0
 
-pub first_possible-requires-in-Switch-clause-cell : goal.first_possible-requires-in-Switch-clause-cell
-first_possible-requires-in-Switch-clause-cell g c = subst (λ (d : Declaration). IsSwitchFor g.R.Routing.answer g.A.Arbiter.ports d c.in-Switch.w c.switch.result.now) (sym c.network-network.ensures.network) (c.network-network.ensures.sound.switches c.in-Switch.w c.switch.result.now c.switch.ensures)
+pub possible_step-requires-in-Switch-clause-cell : goal.possible_step-requires-in-Switch-clause-cell
+possible_step-requires-in-Switch-clause-cell g c = subst (λ (d : Declaration). IsSwitchFor g.R.Routing.answer g.A.Arbiter.ports d c.in-Switch.w c.switch.result.now) (sym c.network-network.ensures.network) (c.network-network.ensures.sound.switches c.in-Switch.w c.switch.result.now c.switch.ensures)
 
-pub first_possible-requires-in-Switch-clause-at : goal.first_possible-requires-in-Switch-clause-at
-first_possible-requires-in-Switch-clause-at g c =
+pub possible_step-requires-in-Switch-clause-at : goal.possible_step-requires-in-Switch-clause-at
+possible_step-requires-in-Switch-clause-at g c =
     let starts = start_at_switch c.args.self.now.declared c.args.end c.in-Switch.w c.in-Switch.field-1 (subst (λ p. slice_get (ends_of c.args.self.now.declared) c.args.end ≡ Some p) c.in-Switch.is c.requires.starts) in
     subst (λ (d : Declaration). (network_of d).start_of c.args.end ≡ AtSwitch c.in-Switch.w) (sym c.network-network.ensures.network) starts
 
-pub first_possible-requires-in-Switch-clause-reached : goal.first_possible-requires-in-Switch-clause-reached
-first_possible-requires-in-Switch-clause-reached g c =
+pub possible_step-requires-in-Switch-clause-reached : goal.possible_step-requires-in-Switch-clause-reached
+possible_step-requires-in-Switch-clause-reached g c =
     let v = c.args.self.now in
     subst (λ (d : Declaration). HasSwitchState d c.in-Switch.w c.switch.result.now c.self.inside.wires) (sym c.network-network.ensures.network)
     (subst (λ (k : NetView g.row.R.Denot g.row.A.Denot). HasSwitchState v.declared c.in-Switch.w c.switch.result.now k.between) (sym c.self.view_is)
     (has_switch g.R.Routing.answer g.A.Arbiter.ports v.declared v.nodes v.switches v.between c.network-network.ensures.sound (Emit 0) c.in-Switch.w c.switch.result.now c.switch.ensures))
 
-pub returns-in-Some-first_possible : goal.returns-in-Some-first_possible
-returns-in-Some-first_possible g c =
+pub returns-in-Some-possible_step : goal.returns-in-Some-possible_step
+returns-in-Some-possible_step g c =
     port_ready c.args.self.now c.args.end c.in-Switch.w c.switch.result.now c.switch.ensures
     c.network-network.result.now c.network-network.ensures.network c.self.inside.wires (ap (λ (k : NetView g.row.R.Denot g.row.A.Denot). k.between) c.self.view_is)
-    c.in-Some-first_possible.first (machine_move c.port_step.result) c.in-Some-first_possible.ensures c.port_step.ensures
+    c.in-Some-possible_step.first (machine_move c.port_step.result) c.in-Some-possible_step.ensures c.port_step.ensures
 
-pub returns-in-None-first_possible : goal.returns-in-None-first_possible
-returns-in-None-first_possible g c =
+pub returns-in-None-possible_step : goal.returns-in-None-possible_step
+returns-in-None-possible_step g c =
     let v = c.args.self.now in
     subst (TellsReady v c.args.end None) (sym c.in-Switch.is)
     (port_not_ready v c.args.end c.in-Switch.w c.switch.result.now c.switch.ensures
-    c.network-network.result.now c.network-network.ensures.network c.self.inside.wires (ap (λ (k : NetView g.row.R.Denot g.row.A.Denot). k.between) c.self.view_is) c.in-None-first_possible.ensures)
+    c.network-network.result.now c.network-network.ensures.network c.self.inside.wires (ap (λ (k : NetView g.row.R.Denot g.row.A.Denot). k.between) c.self.view_is) c.in-None-possible_step.ensures)

@@ -4,8 +4,10 @@ use Rattle.sw_cell.specs.declared.cell.CellId.{CellId}
 use Rattle.sw_journal.specs.Record.{CellView}
 use Rattle.sw_machine.specs.Steps.{Grant}
 use Rattle.sw_run.proofs.Grants.{fails, granted, grants_at_node, grants_elsewhere, grants_full, holds, starts_at}
+use Rattle.sw_run.proofs.Noted.{noted_full}
 use Rattle.sw_run.proofs.run_journal.RunJournal.grant.Goals as goal
 use Rattle.sw_run.specs.Grants.{Grants, Takes}
+use Rattle.sw_run.specs.Notes.{AreTrueNotes}
 
 pub returns-in_default : goal.returns-in_default
 returns-in_default g c =
@@ -33,7 +35,13 @@ pick_input-channel-requires-clause-starts g c =
     starts_at c.topology.result.now self.network.now g.W.RunIdentity.declared c.args.end c.sends.result c.start_of.result c.topology.ensures.wiring self.network_is c.sends.ensures c.start_of.ensures.place ∙ ap Some c.in-Switch.is
 
 pub returns-then-len-self : goal.returns-then-len-self
-returns-then-len-self g c = subst (λ t. Grants c.args.self.now.journal c.args.locked.now.cell.id c.args.locked.now.arbiters.items c.args.end t c.args.self.now.journal c.args.locked.now.arbiters.items) (sym c.end.ensures) (grants_full c.args.self.now.journal c.args.locked.now.cell.id c.args.locked.now.arbiters.items c.args.end)
+returns-then-len-self g c = subst (λ t. Grants c.args.self.now.journal c.args.locked.now.cell.id c.args.locked.now.arbiters.items c.args.end t c.args.self.now.journal c.args.locked.now.arbiters.items) (sym c.end.ensures.over) (grants_full c.args.self.now.journal c.args.locked.now.cell.id c.args.locked.now.arbiters.items c.args.end)
+
+pub invariant_of-self-clause-notes_are : goal.invariant_of-self-clause-notes_are
+invariant_of-self-clause-notes_are g c =
+    let self = c.args.self.now in
+    let full : length self.journal.history ≡ self.journal.limit = omega (arith, c.if-len-self.true, c.len.ensures.len, self.identity_is.3, self.limit_is) in
+    subst (AreTrueNotes self.journal) (sym c.end.ensures.noted) (noted_full self.journal self.notes self.notes_are full)
 
 pub returns : goal.returns
 returns g c =

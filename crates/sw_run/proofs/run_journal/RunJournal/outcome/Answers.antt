@@ -13,4 +13,4 @@ returns-in-Ok g c =
     let left = c.undelivered-undelivered.ensures in
     let out = subst (λ n. AreOutBy j n (map (λ packets. packets.items) c.in-Ok.came_out.items)) nodes c.in-Ok.ensures in
     of_run j W.declared W.load W.limit _ self.identity_is.1 self.identity_is.2 self.identity_is.3
-    (by_journal j left.true_view.state _ left.true_view.history left.true_view.within c.into_history-history.ensures.steps c.why-stop.ensures out left.count)
+    (by_journal j left.true_view.state _ left.true_view.history left.true_view.within c.into_history-history.ensures.steps c.why-stop.ensures.ends out left.count)

@@ -1,6 +1,6 @@
 use Rattle.std.proofs.Common.{Bool, subst}
 use Rattle.sw_cell.proofs.Telling.{none_of_six}
-use Rattle.sw_cell.proofs.switch.first_possible.Goals as goal
+use Rattle.sw_cell.proofs.switch.possible_step.Goals as goal
 use Rattle.sw_cell.specs.Possible.{SwitchTells, step_at_port}
 use Rattle.sw_cell.specs.declared.switch.PortStep.TheVariants as at_port
 

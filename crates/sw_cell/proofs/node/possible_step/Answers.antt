@@ -1,7 +1,7 @@
 use Rattle.std.proofs.Common.{Bool, subst}
 use Rattle.sw_cell.proofs.LinkEnds.{none_at_node}
 use Rattle.sw_cell.proofs.Network.{in_network}
-use Rattle.sw_cell.proofs.node.first_possible.Goals as goal
+use Rattle.sw_cell.proofs.node.possible_step.Goals as goal
 use Rattle.sw_cell.specs.Possible.{NodeTells, step_at_node}
 use Rattle.sw_cell.specs.declared.node.NodeStep.TheVariants as at_node
 use Rattle.sw_machine.proofs.DeclaredNetworks.{are_networks}
