@@ -14,11 +14,13 @@ class Lint:
         self.switches = [it["name"] for it in found.get("switch", [])]
         self.entries = [[(it["address"], it.get("last", it["address"]), sorted({*it["ports"]})) for it in switch.get("route", [])] for switch in found.get("switch", [])]
         self.declared = len(found.get("flow", []))
+        self.flows = found.get("flow", [])
+        self.logicals = {it["name"]: it["target"]["logical"] for it in found.get("node", []) if "target" in it}
         self.replied = {i for i, it in enumerate(found.get("flow", [])) if "reply" in it}
         self.starts = self.network.starts
         self.channel_at = {it: c for c, it in enumerate(self.starts)}
         self.places = [self.places_of(it) for it in self.network.flows]
-        self.texts = ["the network has no flows"] if not self.declared else [*self.unused(), *self.groups(), *self.shared()]
+        self.texts = [*self.circling(), *self.unused(), *self.groups(), *self.shared(), *self.addresses()] if self.declared else ["the network has no flows"]
 
     def end(self, channel):
         return self.starts[channel ^ 1]
@@ -30,19 +32,48 @@ class Lint:
 
     def places_of(self, flow):
         """The places of a flow, rising."""
-        _, source, _, address, _ = flow
-        found, left = set(), [(self.channel_at["node", source], 0)]
+        found, left = set(), [(self.channel_at["node", flow[1]], 0)]
         while left:
             place = left.pop()
-            if place in found:
-                continue
-            found.add(place)
-            channel, deleted = place
-            end = self.end(channel)
-            if end[0] == "switch" and deleted < len(address):
-                following, more = self.looked(end[1], address[deleted])
-                left += [(it, deleted + more) for it in following]
+            if place not in found:
+                found.add(place)
+                left += self.following(flow, place)
         return sorted(found)
+
+    def following(self, flow, place):
+        """The places to which packets of the flow go on from a place."""
+        channel, deleted = place
+        end, address = self.end(channel), flow[3]
+        if end[0] == "node" or deleted == len(address):
+            return []
+        channels, more = self.looked(end[1], address[deleted])
+        return [(it, deleted + more) for it in channels]
+
+    def circles(self, flow, places):
+        """For each set of these places from each of which packets can come to each other: the shortest circle, as channels."""
+        leads = {it: sorted({*self.following(flow, it)} & {*places}) for it in places}
+        ways = {goal: steps_to(goal, leads) for goal in places}
+        left = {it for it in places if it in ways[it]}
+        while left:
+            first = min(left)
+            together = {it for it in left if it in ways[first] and first in ways[it]}
+            left -= together
+            circle = [min(together, key=lambda it: (ways[it][it], it))]
+            back = ways[circle[0]]
+            while len(circle) < back[circle[0]]:
+                circle.append(next(it for it in leads[circle[-1]] if it in back and back[it] == back[circle[0]] - len(circle)))
+            yield [channel for channel, _ in circle]
+
+    def circling(self):
+        """Flows whose packets can come back to a place, and those of which none arrives."""
+        for flow, places in zip(self.network.flows, self.places):
+            same = ([it for it in places if it[1] == deleted] for deleted in range(len(flow[3])))
+            circles = [circle for it in same for circle in self.circles(flow, it)]
+            arrives = any(self.end(channel) == ("node", flow[2]) for channel, _ in places)
+            told = "; over ".join(", ".join(map(self.channel_text, it)) for it in circles)
+            over = f": they {'can ' * arrives}circle over {told}" if circles else ""
+            if circles or not arrives:
+                yield f"packets of {flow[0]} {'may ' * arrives}never reach {self.nodes[flow[2]]}{over}"
 
     def arrivals(self, switch):
         """Flow, port and leading byte of each place on a channel that ends at the switch."""
@@ -105,10 +136,42 @@ class Lint:
                 told = [f"{self.network.flows[it][0]} to {self.nodes[self.network.flows[it][2]]}" for it in pair]
                 yield f"commands of {told[0]} go over {self.channel_text(2 * link)} and of {told[1]} the other way: while both targets answer, each can wait for the other"
 
+    def come_with(self):
+        """For each declared flow the first address byte that is left at its end, or none."""
+        return [it["address"][-left] if (left := it.get("left", 0)) else None for it in self.flows]
+
+    def addresses(self):
+        left = self.come_with()
+        for flow, byte in zip(self.flows, left):
+            logical = self.logicals.get(flow["to"])
+            if None not in (byte, logical) and byte != logical:
+                yield f"packets of {flow['name']} come to {flow['to']} with logical address {byte} in place of {logical}"
+        for flow in (it for it in self.flows if "reply" in it):
+            start, initiator = flow["from"], flow["reply"]["initiator"]
+            known = {self.logicals.get(start), *(byte for it, byte in zip(self.flows, left) if it["to"] == start)} - {None}
+            if known and initiator not in known | {254}:
+                yield f"the initiator logical address {initiator} of {flow['name']} is no known address of {start}"
+        for i, flow in enumerate(self.flows):
+            for one in self.flows[:i]:
+                both = [it["reply"]["initiator"] for it in (one, flow) if "reply" in it]
+                if (one["from"], one["to"]) == (flow["from"], flow["to"]) and len({*both}) == 2:
+                    yield (f"{one['name']} and {flow['name']} go from {flow['from']} to {flow['to']} "
+                           f"with different initiator logical addresses: {both[0]} and {both[1]}")
+                    break
+
     def channel_text(self, channel):
         names = {end: name for name, end in self.network.names.items()}
         text = lambda it: names[it] if it[0] == "node" else f"{names[it[:2]]}:{it[2]}"
         return f"{text(self.starts[channel])}>{text(self.end(channel))}"
+
+
+def steps_to(goal, leads):
+    """From where one or more steps lead to the goal, and by how few."""
+    steps, reached = {}, [goal]
+    for count in range(1, len(leads) + 1):
+        reached = [it for it in leads if it not in steps and not {*reached}.isdisjoint(leads[it])]
+        steps.update(dict.fromkeys(reached, count))
+    return steps
 
 
 def lint_texts(text):

@@ -13,21 +13,21 @@ _swcheck() {
     for it in "${COMP_WORDS[@]:1:COMP_CWORD-1}"; do
         if [ -z "$command" ]; then
             case $it in
-                route) command=$it options='--json --hints -h --help' valued='--hints' kinds=('file .toml' 'none') ;;
-                decide) command=$it options='--json --hints -h --help' valued='--hints' kinds=('file .toml') ;;
-                check) command=$it options='--json --hints -h --help' valued='--hints' kinds=('file .toml' 'file .cert') ;;
-                report) command=$it options='--json --hints -h --help' valued='--hints' kinds=('file .toml') ;;
-                replay) command=$it options='--json --hints -h --help' valued='--hints' kinds=('file .toml' 'file .schedule') ;;
-                run) command=$it options='--workers --limit --schedule --summary --json --hints -h --help' valued='--workers --limit --schedule --hints' kinds=('file .toml' 'file .load') ;;
-                migrate) command=$it options='--hints -h --help' valued='--hints' kinds=('file .toml') ;;
-                explain) command=$it options='--all --json --hints -h --help' valued='--hints' kinds=('file .toml') ;;
-                draw) command=$it options='--flow --cycle --numbers --hints -h --help' valued='--flow --hints' kinds=('file .toml') ;;
-                rmap) command=$it options='--no-ack --transaction --hints -h --help' valued='--transaction --hints' kinds=('file .toml' 'none' 'texts read write' 'none' 'none') ;;
-                mend) command=$it options='--pairs --json --hints -h --help' valued='--hints' kinds=('file .toml') ;;
-                margin) command=$it options='--json --hints -h --help' valued='--hints' kinds=('file .toml') ;;
-                witness) command=$it options='--tries --seed --hints -h --help' valued='--tries --seed --hints' kinds=('file .toml') ;;
-                audit) command=$it options='--json --quiet --certificates --hints -h --help' valued='--certificates --hints' kinds=('again file .toml') ;;
-                init) command=$it options='--hints -h --help' valued='--hints' kinds=('none') ;;
+                route) command=$it options='--json --hints --notes --all-faults -h --help' valued='--hints --notes' kinds=('file .toml' 'none') ;;
+                decide) command=$it options='--json --hints --notes --all-faults -h --help' valued='--hints --notes' kinds=('file .toml') ;;
+                check) command=$it options='--json --hints --notes --all-faults -h --help' valued='--hints --notes' kinds=('file .toml' 'file .cert') ;;
+                report) command=$it options='--json --hints --notes --all-faults -h --help' valued='--hints --notes' kinds=('file .toml') ;;
+                replay) command=$it options='--json --hints --notes --all-faults -h --help' valued='--hints --notes' kinds=('file .toml' 'file .schedule') ;;
+                run) command=$it options='--workers --limit --schedule --summary --json --hints --notes --all-faults -h --help' valued='--workers --limit --schedule --hints --notes' kinds=('file .toml' 'file .load') ;;
+                migrate) command=$it options='--hints --notes --all-faults -h --help' valued='--hints --notes' kinds=('file .toml') ;;
+                explain) command=$it options='--all --json --hints --notes --all-faults -h --help' valued='--hints --notes' kinds=('file .toml') ;;
+                draw) command=$it options='--flow --cycle --numbers --hints --notes --all-faults -h --help' valued='--flow --hints --notes' kinds=('file .toml') ;;
+                rmap) command=$it options='--no-ack --transaction --hints --notes --all-faults -h --help' valued='--transaction --hints --notes' kinds=('file .toml' 'none' 'texts read write' 'none' 'none') ;;
+                mend) command=$it options='--pairs --json --hints --notes --all-faults -h --help' valued='--hints --notes' kinds=('file .toml') ;;
+                margin) command=$it options='--json --hints --notes --all-faults -h --help' valued='--hints --notes' kinds=('file .toml') ;;
+                witness) command=$it options='--tries --seed --hints --notes --all-faults -h --help' valued='--tries --seed --hints --notes' kinds=('file .toml') ;;
+                audit) command=$it options='--json --quiet --certificates --hints --notes --all-faults -h --help' valued='--certificates --hints --notes' kinds=('again file .toml') ;;
+                init) command=$it options='--hints --notes --all-faults -h --help' valued='--hints --notes' kinds=('texts bus ring housekeeping regions limits') ;;
                 help) command=$it options='-h --help -V --version' valued='' kinds=('texts route decide check report replay run migrate explain draw rmap mend margin witness audit init help') ;;
                 -*) ;;
                 *) return ;;
@@ -53,21 +53,36 @@ _swcheck() {
         options=''
         case $command$last in
             route--hints) kind='texts auto never' ;;
+            route--notes) kind='texts few all never' ;;
             decide--hints) kind='texts auto never' ;;
+            decide--notes) kind='texts few all never' ;;
             check--hints) kind='texts auto never' ;;
+            check--notes) kind='texts few all never' ;;
             report--hints) kind='texts auto never' ;;
+            report--notes) kind='texts few all never' ;;
             replay--hints) kind='texts auto never' ;;
+            replay--notes) kind='texts few all never' ;;
             run--schedule) kind='file .schedule' ;;
             run--hints) kind='texts auto never' ;;
+            run--notes) kind='texts few all never' ;;
             migrate--hints) kind='texts auto never' ;;
+            migrate--notes) kind='texts few all never' ;;
             explain--hints) kind='texts auto never' ;;
+            explain--notes) kind='texts few all never' ;;
             draw--hints) kind='texts auto never' ;;
+            draw--notes) kind='texts few all never' ;;
             rmap--hints) kind='texts auto never' ;;
+            rmap--notes) kind='texts few all never' ;;
             mend--hints) kind='texts auto never' ;;
+            mend--notes) kind='texts few all never' ;;
             margin--hints) kind='texts auto never' ;;
+            margin--notes) kind='texts few all never' ;;
             witness--hints) kind='texts auto never' ;;
+            witness--notes) kind='texts few all never' ;;
             audit--hints) kind='texts auto never' ;;
+            audit--notes) kind='texts few all never' ;;
             init--hints) kind='texts auto never' ;;
+            init--notes) kind='texts few all never' ;;
             *) ;;
         esac
     else

@@ -1,7 +1,7 @@
 """audit, and each command with --json, beside what tests/second_json.py makes of the answers in lines
 
-The examples, the files of tests/data, and random networks, of which one in seven is cut short; byte for byte. It stops at the first that differs. With --show
-it writes the rows of tests/json.rows and tests/audit.rows anew instead, by a program that may lack --json.
+The examples, the files of tests/data, those of lint.cases there, and random networks, of which one in seven is cut short; byte for byte. It stops at the
+first that differs. With --show it writes the rows of tests/json.rows and tests/audit.rows anew instead, by a program that may lack --json.
 """
 import collections
 import glob
@@ -81,6 +81,9 @@ class Answers:
         for file in files:
             os.makedirs(f"{self.folder}/{os.path.dirname(file)}", exist_ok=True)
             shutil.copy(f"{TOP}/{file}", f"{self.folder}/{file}")
+        os.mkdir(f"{self.folder}/lint")
+        noted = [write(f"{self.folder}/{name}", text) for name, text in rows_tool().kept() if name.startswith("lint/")]
+        files += [os.path.relpath(it, self.folder) for it in noted]
         random_files = [*self.random_files(count, numbers)]
         audits = [[*sorted(files), "there-is-none.toml"], *(random_files[at : at + 50] for at in range(0, count, 50))]
         return any(map(self.audits_differ, audits)) or any(map(self.commands_differ, [*files, *random_files]))

@@ -30,7 +30,7 @@ pub enum RmapFault {
 }
 
 /// The code and the name of a fault.
-pub(crate) fn fault_words(fault: RmapFault) -> &'static str
+pub fn fault_words(fault: RmapFault) -> &'static str
     ensures { result.now ≡ fault_words fault }
 {
     match fault {

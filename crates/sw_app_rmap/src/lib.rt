@@ -11,6 +11,6 @@ mod request;
 mod rmap_finding;
 mod words;
 
-pub use fault::RmapFault;
+pub use fault::{RmapFault, fault_words};
 pub use request::{Access, Request};
 pub use rmap_finding::{RmapFinding, rmap};

@@ -92,6 +92,12 @@ option_at i name = with_index i (filled (option_rule name))
 abbrev pub hints_at : ℕ → Rule
 hints_at i = option_at i (codes "hints")
 
+abbrev pub notes_at : ℕ → Rule
+notes_at i = option_at i (codes "notes")
+
+abbrev pub all_faults_at : ℕ → Rule
+all_faults_at i = flag_at i (codes "all-faults")
+
 abbrev pub help_at : ℕ → Rule
 help_at i = with_index i (filled help_rule)
 

@@ -6,10 +6,9 @@ use Rattle.clap.specs.Takes.{is_given}
 use Rattle.clap.specs.Values.{IsSignedIn}
 use Rattle.clap.specs.Walk.{Row, Rule, Text, first_of, nothing_held, rows_after, settled, walk}
 use Rattle.clap.specs.declared.builder.value_parser.Reading.TheVariants.{AsWritten, WithoutMinus}
-use Rattle.clap.specs.declared.error.kind.ErrorKind.TheVariants as kind
 use Rattle.sw_args.specs.CommandLine.{IsCount, most_seed, most_steps, most_tries, most_workers, optional_value, required_values}
 use Rattle.sw_args.proofs.Kept.{Each, Keeps, KeepsDefault}
-use Rattle.sw_args.proofs.Given.{Counts, Holds, IsPlain, Level, count_at, count_default, count_keeps, count_there, counts_nothing, flag_at, flag_default, flag_keeps, given_count, given_value, help_at, help_default, help_keeps, hints_at, level_gives, limit_counts, option_at, option_default, option_keeps, required_at, required_default, required_keeps, seed_counts, tries_count, workers_count}
+use Rattle.sw_args.proofs.Given.{Counts, Holds, IsPlain, Level, count_at, count_default, count_keeps, count_there, counts_nothing, flag_at, flag_default, flag_keeps, given_count, given_value, help_at, help_default, help_keeps, all_faults_at, hints_at, notes_at, level_gives, limit_counts, option_at, option_default, option_keeps, required_at, required_default, required_keeps, seed_counts, tries_count, workers_count}
 
 abbrev pub json_at : ℕ → Rule
 json_at i = flag_at i (codes "json")
@@ -19,7 +18,7 @@ file_at = required_at 1 (codes "FILE")
 
 -- the last arguments, without `--json` and with it
 abbrev pub last_rules : ℕ → List Rule
-last_rules i = hints_at i ∷ help_at i ∷ []
+last_rules i = hints_at i ∷ notes_at i ∷ all_faults_at i ∷ help_at i ∷ []
 
 abbrev pub json_rules : ℕ → List Rule
 json_rules i = json_at i ∷ last_rules i
@@ -78,6 +77,12 @@ count_sound i name usual most counts = (count_keeps false i name usual most coun
 hints_sound : (i : ℕ) → Sound (hints_at i)
 hints_sound i = option_sound i (codes "hints") (refl, refl, refl, refl)
 
+notes_sound : (i : ℕ) → Sound (notes_at i)
+notes_sound i = option_sound i (codes "notes") (refl, refl, refl, refl)
+
+all_faults_sound : (i : ℕ) → Sound (all_faults_at i)
+all_faults_sound i = flag_sound i (codes "all-faults") (refl, refl, refl, refl)
+
 help_sound : (i : ℕ) → Sound (help_at i)
 help_sound i = (help_keeps false i, help_default i)
 
@@ -85,7 +90,7 @@ file_sound : Sound file_at
 file_sound = required_sound 1 (codes "FILE") (refl, refl, refl, refl)
 
 last_sound : (i : ℕ) → Each Sound (last_rules i)
-last_sound i = (hints_sound i, (help_sound i, tt))
+last_sound i = (hints_sound i, (notes_sound i, (all_faults_sound i, (help_sound i, tt))))
 
 json_sound : (i : ℕ) → Each Sound (json_rules i)
 json_sound i = (flag_sound i (codes "json") (refl, refl, refl, refl), last_sound i)

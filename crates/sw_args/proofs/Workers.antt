@@ -13,4 +13,4 @@ call_workers name values (Run file load workers limit schedule summary json) (ca
 call_workers name values call is = tt
 
 pub matched_workers : (found : Option (List ℕ × List Row)) (asked : Asked) → IsMatched found asked → HasWorkers asked.call
-matched_workers found asked (name, values, met, is_call, is_files, is_hints) = call_workers name values asked.call is_call
+matched_workers found asked (name, values, met, is_call, is_files, is_hints, is_notes, is_faults) = call_workers name values asked.call is_call

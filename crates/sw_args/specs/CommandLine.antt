@@ -146,8 +146,17 @@ init_app = with_rule (new_app (codes "init")) (optional_value (codes "NAME"))
 abbrev pub hints_rule : Rule
 hints_rule = option_rule (codes "hints")
 
-abbrev pub with_hints : App → App
-with_hints app = with_rule app hints_rule
+-- `--notes VALUE`, of each subcommand
+abbrev pub notes_rule : Rule
+notes_rule = option_rule (codes "notes")
+
+-- `--all-faults`, of each subcommand
+abbrev pub all_faults_rule : Rule
+all_faults_rule = flag_rule (codes "all-faults")
+
+-- the options that say what is told on standard error
+abbrev pub with_telling : App → App
+with_telling app = with_rule (with_rule (with_rule app hints_rule) notes_rule) all_faults_rule
 
 -- `swcheck`, which asks for a subcommand, and has a version
 abbrev pub top_app : App
@@ -158,21 +167,21 @@ abbrev pub swcheck_app : App
 swcheck_app =
     with_subcommand (with_subcommand (with_subcommand (with_subcommand (with_subcommand (with_subcommand (with_subcommand (with_subcommand
     (with_subcommand (with_subcommand (with_subcommand (with_subcommand (with_subcommand (with_subcommand (with_subcommand top_app
-    (with_hints route_app).top)
-    (with_hints decide_app).top)
-    (with_hints check_app).top)
-    (with_hints report_app).top)
-    (with_hints replay_app).top)
-    (with_hints run_app).top)
-    (with_hints migrate_app).top)
-    (with_hints explain_app).top)
-    (with_hints draw_app).top)
-    (with_hints rmap_app).top)
-    (with_hints mend_app).top)
-    (with_hints margin_app).top)
-    (with_hints witness_app).top)
-    (with_hints audit_app).top)
-    (with_hints init_app).top
+    (with_telling route_app).top)
+    (with_telling decide_app).top)
+    (with_telling check_app).top)
+    (with_telling report_app).top)
+    (with_telling replay_app).top)
+    (with_telling run_app).top)
+    (with_telling migrate_app).top)
+    (with_telling explain_app).top)
+    (with_telling draw_app).top)
+    (with_telling rmap_app).top)
+    (with_telling mend_app).top)
+    (with_telling margin_app).top)
+    (with_telling witness_app).top)
+    (with_telling audit_app).top)
+    (with_telling init_app).top
 
 -- the command is that of the app
 abbrev pub IsOf : App → Command → Type 0
@@ -279,12 +288,15 @@ abbrev pub HasWorkers : Call → Type 0
 HasWorkers (Run file load workers limit schedule summary json) = 0 < workers
 HasWorkers _ = Unit {0}
 
--- the subcommand that was met, with its values, is this call, the files that it names, and what was given at `--hints`
+-- the subcommand that was met, with its values, is this call, the files that it names, and what was given at the options that say what is
+-- told on standard error
 abbrev pub IsMatched : Option (List ℕ × List Row) → Asked → Type 0
 IsMatched found asked = (name : List ℕ) × (values : List Row) × (found ≡ Some (name, values))
     × IsCallOf name values asked.call
     × AreAll (codes "FILE") values asked.files.items
     × IsOption (codes "hints") values asked.hints
+    × IsOption (codes "notes") values asked.notes
+    × IsSet (codes "all-faults") values asked.all_faults
 
 -- the subcommand that was met has these values, and is this call
 abbrev pub IsMet : Option (List ℕ × List Row) → Call → List Row → Type 0

@@ -6,7 +6,7 @@ use Rattle.clap.specs.declared.parser.matches.ArgMatches.{ArgMatches}
 use Rattle.sw_args.specs.declared.parts.Subcommand.{Subcommand}
 use Rattle.sw_args.specs.declared.parts.Takes.{Takes}
 use Rattle.sw_args.specs.declared.parts.Takes.TheVariants.{Value, Values, Optional, Count, Flag, Text}
-use Rattle.sw_args.specs.CommandLine.{count_rule, flag_rule, option_rule, optional_value, required_value, required_values, swcheck_app, with_hints, route_app, decide_app, check_app, report_app, replay_app, run_app, migrate_app, explain_app, draw_app, rmap_app, mend_app, margin_app, witness_app, audit_app, init_app}
+use Rattle.sw_args.specs.CommandLine.{count_rule, flag_rule, option_rule, optional_value, required_value, required_values, swcheck_app, with_telling, route_app, decide_app, check_app, report_app, replay_app, run_app, migrate_app, explain_app, draw_app, rmap_app, mend_app, margin_app, witness_app, audit_app, init_app}
 
 -- the rule of an argument of this name that takes this
 abbrev pub taking : List ℕ → Takes → Rule
@@ -28,28 +28,28 @@ part_rule part = taking part.0.now part.1
 abbrev pub with_parts : App → List CommandPart → App
 with_parts app parts = fold (λ a part. with_rule a (part_rule part)) app parts
 
--- the command that a row of the table is, with the option `--hints`
+-- the command that a row of the table is, with the options that say what is told on standard error
 abbrev pub subcommand_app : Subcommand → App
-subcommand_app subcommand = with_hints (with_parts (new_app subcommand.name.now) subcommand.parts.now)
+subcommand_app subcommand = with_telling (with_parts (new_app subcommand.name.now) subcommand.parts.now)
 
 -- the subcommands, in the order of the help
 abbrev pub subcommand_apps : List App
 subcommand_apps =
-    with_hints route_app ∷
-    with_hints decide_app ∷
-    with_hints check_app ∷
-    with_hints report_app ∷
-    with_hints replay_app ∷
-    with_hints run_app ∷
-    with_hints migrate_app ∷
-    with_hints explain_app ∷
-    with_hints draw_app ∷
-    with_hints rmap_app ∷
-    with_hints mend_app ∷
-    with_hints margin_app ∷
-    with_hints witness_app ∷
-    with_hints audit_app ∷
-    with_hints init_app ∷ []
+    with_telling route_app ∷
+    with_telling decide_app ∷
+    with_telling check_app ∷
+    with_telling report_app ∷
+    with_telling replay_app ∷
+    with_telling run_app ∷
+    with_telling migrate_app ∷
+    with_telling explain_app ∷
+    with_telling draw_app ∷
+    with_telling rmap_app ∷
+    with_telling mend_app ∷
+    with_telling margin_app ∷
+    with_telling witness_app ∷
+    with_telling audit_app ∷
+    with_telling init_app ∷ []
 
 -- the command with each of the subcommands besides, in their order
 abbrev pub with_subcommands : App → List App → App

@@ -105,7 +105,7 @@ pub enum Call<'a> {
     },
 }
 
-/// What the words ask for: a call, the network files that it names, and what was given at `--hints`.
+/// What the words ask for: a call, the network files that it names, and what is told on standard error.
 #[derive(Drop)]
 pub struct Asked<'a> {
     /// What is to be done.
@@ -114,6 +114,10 @@ pub struct Asked<'a> {
     pub files: Vec<&'a str>,
     /// The word behind `--hints`; none where it is left out.
     pub hints: Option<&'a str>,
+    /// The word behind `--notes`; none where it is left out.
+    pub notes: Option<&'a str>,
+    /// Whether each fault is told that can be told.
+    pub all_faults: bool,
 }
 
 /// Why the words give no call, with the text to print.

@@ -9,7 +9,7 @@ use crate::parts::{CommandPart, Subcommand, Takes, subcommand_of};
 use crate::release::RELEASE;
 use clap::error::ErrorKind;
 use clap::{ArgMatches, Command};
-use std::alloc::Global;
+use std::alloc::{AllocError, Global};
 
 /// The most threads that `run` may be asked for.
 const MOST_WORKERS: u32 = 64;
@@ -32,7 +32,7 @@ const JSON: CommandPart = ("json", Takes::Flag, "Print the answer as one JSON ob
 /// The subcommands, each by itself: what a table costs to prove grows faster than the square of its rows.
 const ROUTE: &Subcommand = &Subcommand {
     name: "route",
-    about: "Print the places of a flow, and whether packets arrive rightly",
+    about: "Print the places of a flow; routed: packets that arrive do so rightly, but they may circle",
     example: "Example: swcheck route examples/line.toml f",
     parts: &[
         FILE,
@@ -236,9 +236,13 @@ const AUDIT: &Subcommand = &Subcommand {
 
 const INIT: &Subcommand = &Subcommand {
     name: "init",
-    about: "Print a sample network file",
+    about: "Print a sample network file: the bus, where no NAME is given",
     example: "Example: swcheck init",
-    parts: &[("NAME", Takes::Optional, "The name of a sample")],
+    parts: &[(
+        "NAME",
+        Takes::Optional,
+        "bus, ring, housekeeping, regions or limits",
+    )],
 };
 
 /// The subcommand at a place of the help.
@@ -263,6 +267,33 @@ fn subcommand_at(place: usize) -> Option<&'static Subcommand>
         14 => Some(INIT),
         _ => None,
     }
+}
+
+/// No command has so many subcommands.
+const MOST_SUBCOMMANDS: usize = 64;
+
+/// Has the subcommand an option of this name?
+fn has_option(subcommand: &Subcommand, name: &str) -> bool {
+    subcommand.parts.iter().any(|(part, takes, _help)| {
+        *part == name && matches!(takes, Takes::Count(..) | Takes::Flag | Takes::Text)
+    })
+}
+
+/// The names of the subcommands that have an option of this name, without its dashes.
+///
+/// # Errors
+///
+/// There is no memory for the list.
+pub fn commands_with(alloc: Global, option: &str) -> Result<Vec<&'static str>, AllocError> {
+    let mut names = Vec::new(alloc);
+    for place in 0..MOST_SUBCOMMANDS {
+        if let Some(subcommand) = subcommand_at(place)
+            && has_option(subcommand, option)
+        {
+            names.push(subcommand.name)?;
+        }
+    }
+    Ok(names)
 }
 
 const NO_WORDS: &[&str] = &[];

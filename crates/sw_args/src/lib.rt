@@ -10,6 +10,7 @@ mod release;
 mod values;
 
 pub use call::{Asked, Call, WordsFault};
+pub use command_line::commands_with;
 pub use laws::logic_is_told;
 pub use matched::words;
 pub use release::{TOOLCHAIN, VERSION};

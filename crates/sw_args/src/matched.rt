@@ -98,7 +98,7 @@ fn call_of<'a>(name: &str, values: &ArgMatches<'a>) -> Call<'a>
     }
 }
 
-/// The call of the subcommand that was met, with the files that its values name, and what was given at `--hints`.
+/// The call of the subcommand that was met, with the files that its values name, and what is told on standard error.
 fn asked_of<'a>(alloc: Global, matches: &ArgMatches<'a>) -> Result<Asked<'a>, WordsFault>
     requires { MeetsCall (subcommand_rows_of matches.now) }
     ensures asked { IfOk result (IsMatched (subcommand_rows_of matches.now)) }
@@ -112,6 +112,8 @@ fn asked_of<'a>(alloc: Global, matches: &ArgMatches<'a>) -> Result<Asked<'a>, Wo
         call: call_of(name, values),
         files,
         hints: value_of(values, "hints"),
+        notes: value_of(values, "notes"),
+        all_faults: is_set(values, "all-faults"),
     })
 }
 

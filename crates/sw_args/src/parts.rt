@@ -37,11 +37,25 @@ pub(crate) struct Subcommand {
     pub parts: &'static [CommandPart],
 }
 
-/// Whether to tell how a network file is mended.
+/// Whether to tell what to do.
 const HINTS: CommandPart = (
     "hints",
     Takes::Text,
-    "auto: tell on standard error how to mend a network file; never: do not",
+    "auto: tell on standard error what to do about what was found; never: nothing",
+);
+
+/// How many notes to tell.
+const NOTES: CommandPart = (
+    "notes",
+    Takes::Text,
+    "few: tell three notes of a kind, and count the others; all: tell each; never: tell none",
+);
+
+/// Whether to tell each fault.
+const ALL_FAULTS: CommandPart = (
+    "all-faults",
+    Takes::Flag,
+    "Tell on standard error each fault that can be told, not only the first",
 );
 
 /// A number from 1 up to the most.
@@ -70,7 +84,7 @@ fn arg_of<'a>(alloc: Global, part: CommandPart) -> Arg<'a>
     }
 }
 
-/// The subcommand, with the option `--hints`, which each has, behind its own.
+/// The subcommand, with the options that each has behind its own: what is told on standard error.
 pub(crate) fn subcommand_of<'a>(
     alloc: Global,
     subcommand: &Subcommand,
@@ -83,5 +97,7 @@ pub(crate) fn subcommand_of<'a>(
     for part in subcommand.parts {
         command = command.arg(arg_of(alloc, *part))?;
     }
-    command.arg(arg_of(alloc, HINTS))
+    let hinting = command.arg(arg_of(alloc, HINTS))?;
+    let noting = hinting.arg(arg_of(alloc, NOTES))?;
+    noting.arg(arg_of(alloc, ALL_FAULTS))
 }

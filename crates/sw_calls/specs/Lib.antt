@@ -1,3 +1,3 @@
-pub mod Hints
+pub mod Telling
 pub mod Given
 pub mod Files

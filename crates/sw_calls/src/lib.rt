@@ -4,7 +4,8 @@
 
 mod files;
 mod given;
-mod hints;
+mod refusals;
+mod telling;
 mod told;
 mod verdict_calls;
 
@@ -13,6 +14,6 @@ pub use files::{
     write_sample,
 };
 pub use given::{given_call, given_texts, given_words};
-pub use hints::{Hints, hints_of};
-pub use told::{no_hints, tell_refused, told_end};
+pub use telling::{Hints, Notes, Telling, telling_of};
+pub use told::{no_telling, tell_refused, told_end};
 pub use verdict_calls::run_verdicts;

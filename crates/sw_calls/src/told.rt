@@ -3,9 +3,13 @@ ghost use Rattle.std.specs.Prelude.{◌≡◌, ◌⊎◌};
 ghost use Rattle.sw_args.specs.CommandLine.{words_status};
 ghost use Rattle.sw_text.specs.Ends.{exit_status};
 
+use crate::refusals::refusal_text;
 use sw_args::WordsFault;
 use sw_text::Ended;
 use sw_text::statuses::REFUSED;
+
+/// What is told of a value that an option does not have.
+const NO_VALUE: &str = "--hints is auto or never, and --notes few, all or never";
 
 /// Tells of a read or a write that failed. How the call ended stays as it is.
 pub fn told_end(rt: &impl Eprint, ended: Ended) -> Ended
@@ -19,14 +23,22 @@ pub fn told_end(rt: &impl Eprint, ended: Ended) -> Ended
     ended
 }
 
+/// Tells why words are refused, as clap says it where there is no memory to say more.
+fn tell_refusal<R: Eprint + AllocGlobal>(rt: &R, text: &str) {
+    let _ = match refusal_text(rt.alloc(), text) {
+        Ok(retold) => eprint!(rt; "{retold}"),
+        Err(_) => eprint!(rt; "{text}"),
+    };
+}
+
 /// Tells why the words give no call.
-pub(crate) fn tell_words_fault<R: Print + Eprint>(rt: &R, fault: &WordsFault) -> u8
+pub(crate) fn tell_words_fault<R: Print + Eprint + AllocGlobal>(rt: &R, fault: &WordsFault) -> u8
     ensures { (result ≡ words_status fault.now) ⊎ (result ≡ exit_status Ended.WriteFailed) }
 {
     let written = match fault {
         WordsFault::Help(text) => print!(rt; "{text}"),
         WordsFault::Refused(text) => {
-            let _ = eprint!(rt; "{text}");
+            tell_refusal(rt, text);
             Ok(())
         }
         WordsFault::Memory => print!(rt; "fault memory\n"),
@@ -45,9 +57,9 @@ pub fn tell_refused(rt: &impl Eprint, why: &str) -> Ended
     Ended::Status(REFUSED)
 }
 
-/// Tells that `--hints` has no such value.
-pub fn no_hints(rt: &impl Eprint) -> Ended
+/// Tells that `--hints` or `--notes` has no such value.
+pub fn no_telling(rt: &impl Eprint) -> Ended
     ensures { result ≡ Ended.Status 2 }
 {
-    tell_refused(rt, "--hints is auto or never")
+    tell_refused(rt, NO_VALUE)
 }

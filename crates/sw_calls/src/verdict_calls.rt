@@ -1,8 +1,8 @@
 //! The calls of the program that has the engines of `sw_app` alone.
 use crate::files::{check_files, decide_file, migrate_file, report_file, route_file, write_sample};
 use crate::given::{given_call, given_texts, given_words};
-use crate::hints::hints_of;
-use crate::told::{no_hints, tell_refused, told_end};
+use crate::telling::telling_of;
+use crate::told::{no_telling, tell_refused, told_end};
 use std::io::{self, Write};
 use std::rt::{Env, Files};
 use sw_app::VerdictWorkers;
@@ -45,8 +45,8 @@ fn run_asked<R: Files + Print + Eprint + AllocGlobal, C: VerdictWorkers>(
     workers: &C,
     asked: &Asked<'_>,
 ) -> Ended {
-    if hints_of(asked.hints).is_none() {
-        return no_hints(rt);
+    if telling_of(asked).is_none() {
+        return no_telling(rt);
     }
     let mut writer = io::writer(rt);
     told_end(rt, run_call(rt, workers, asked.call, &mut writer))

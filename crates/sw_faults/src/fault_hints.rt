@@ -10,6 +10,7 @@ use crate::line_column::position_at;
 use crate::made::Made;
 use crate::note_words::note_text;
 use crate::notes::notes_of;
+use crate::syntax::{syntax_error, syntax_help};
 use crate::unread::text_fault;
 use crate::words::{expected_text, help_text, what_text};
 use std::alloc::{AllocError, Global};
@@ -54,7 +55,13 @@ pub fn hint_at_fault(alloc: Global, text: &[u8], fault: &TextFault) -> Result<Hi
     ensures { IfOk result (λ h. IsAtFault text.now fault.now h.line h.column) }
 {
     let place = fault_offset(alloc, text, fault)?;
-    let hint = Hint::new(alloc, what_text(alloc, fault)?);
+    let error = syntax_error(alloc, text, fault)?;
+    let help = match &error {
+        Some(error) => syntax_help(alloc, text, error)?,
+        None => String::new(alloc),
+    };
+    let mut hint = Hint::new(alloc, what_text(alloc, fault, &error)?);
+    hint.help = help;
     let Some(at) = place else {
         return Ok(hint);
     };

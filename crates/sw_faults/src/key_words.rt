@@ -6,12 +6,11 @@ use sw_file::declared_version;
 use sw_text::{Key, Section, Version};
 use toml::Table;
 
-/// By the words of which version a fault of the document is told: of version 3 where it is of that
-/// version, else of version 2.
+/// By the words of which version a fault of the document is told: of its own, and of version 2
+/// where it says none.
 pub(crate) fn words_version(alloc: Global, document: &Table) -> Made<Version> {
     match declared_version(alloc, document) {
-        Ok(Version::Three) => Ok(Version::Three),
-        Ok(_) => Ok(Version::Two),
+        Ok(version) => Ok(version),
         Err(refused) => {
             text_fault(refused)?;
             Ok(Version::Two)

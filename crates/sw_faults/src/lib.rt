@@ -22,6 +22,8 @@ mod passing;
 mod reply_notes;
 mod scan;
 mod sought;
+mod syntax;
+mod unclosed;
 mod unread;
 mod words;
 

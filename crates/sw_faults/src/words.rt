@@ -4,10 +4,12 @@ use crate::key_words::{key_texts, value_words, words_version};
 use crate::made::Made;
 use crate::names::{add_names, names_of};
 use crate::nearest::meant_help;
+use crate::syntax::missed_text;
 use std::alloc::{AllocError, Global};
 use sw_text::{Key, KeyFault, Section, TextFault, Version, fault_text, is_known};
 use sw_topo::{Limit, TopoFault};
 use toml::Table;
+use toml::de::Error;
 
 /// What is said of a fault, as far as that hangs on nothing else in the text.
 #[derive(Clone, Copy)]
@@ -21,6 +23,11 @@ fn words_of(fault: &TextFault) -> Words {
     let (wrong, right, help) = match fault {
         TextFault::Syntax => ("the text is no TOML", "a TOML 1.1 text", ""),
         TextFault::UnknownKey(_, _) => ("a table has no such key", "", ""),
+        TextFault::Key(KeyFault::MissingKey, Section::Document, Key::Version) => (
+            "a key is missing here",
+            "",
+            "a network file begins with a line version = 3 (or 2, or 1), above the first header",
+        ),
         TextFault::Key(KeyFault::MissingKey, _, _) => (
             "a key is missing here",
             "",
@@ -32,9 +39,12 @@ fn words_of(fault: &TextFault) -> Words {
             "a text stands in quotes, a number and true or false do not; a list stands in [ ], a table in { }",
         ),
         TextFault::Key(KeyFault::OutOfRange, _, _) => ("the value is not allowed", "", ""),
-        TextFault::Key(KeyFault::DuplicateName, _, _) => (
+        TextFault::Key(KeyFault::DuplicateName, section, _) => (
             "the name is taken",
-            "",
+            match section {
+                Section::Flow(_) => "a name that no other flow has",
+                _ => "a name that no other node or switch has",
+            },
             "nodes and switches share one set of names; flows have their own",
         ),
         TextFault::Key(KeyFault::UnknownName, _, _) => ("there is no such name", "", ""),
@@ -81,10 +91,17 @@ fn words_of(fault: &TextFault) -> Words {
     Words { wrong, right, help }
 }
 
-/// The fault as it is printed, and in words.
-pub(crate) fn what_text(alloc: Global, fault: &TextFault) -> Made<String> {
+/// The fault as it is printed, and in words; of a text that is no TOML also what TOML misses.
+pub(crate) fn what_text(alloc: Global, fault: &TextFault, error: &Option<Error>) -> Made<String> {
     let text = fault_text(alloc, fault)?;
-    format!(in alloc; "{text}: {}", words_of(fault).wrong)
+    let wrong = words_of(fault).wrong;
+    match error {
+        Some(error) => {
+            let missed = missed_text(alloc, error)?;
+            format!(in alloc; "{text}: {wrong}: {missed}")
+        }
+        None => format!(in alloc; "{text}: {wrong}"),
+    }
 }
 
 /// What would be right, by the words of this version.
@@ -101,6 +118,9 @@ pub fn expected_text(
         TextFault::UnknownKey(section, _) => {
             let keys = key_texts(alloc, section.keys(version))?;
             format!(in alloc; "one of {}", keys.join(alloc, ", ")?)
+        }
+        TextFault::Key(KeyFault::DuplicateName, _, _) => {
+            String::from_str(alloc, words_of(fault).right)
         }
         TextFault::Key(KeyFault::MissingKey, section, key) => {
             let words = value_words(version, *section, *key);
@@ -120,7 +140,11 @@ fn is_new_key(before: Version, version: Version, section: Section, name: &str) -
 
 /// What to do about a key that a table may not have.
 fn key_help(alloc: Global, version: Version, section: Section, name: &str) -> Made<String> {
-    let keys = section.keys(version);
+    // A key of version 2 may be meant in a file of version 1 too.
+    let keys = section.keys(match version {
+        Version::One => Version::Two,
+        version => version,
+    });
     let outer = match section {
         Section::Packet(_) => &[Key::Packet],
         _ => Section::Document.keys(version),

@@ -1,4 +1,5 @@
 //! The hint of a line of a certificate's text that is not as the grammar asks.
+use crate::text_kinds::{TextKind, note_kind};
 use crate::text_lines::{line_hint, nth_line};
 use std::alloc::{AllocError, Global};
 use sw_cert::{MAX_ADDRESS, MAX_NUMBER};
@@ -38,7 +39,8 @@ fn flows_before(text: &[u8], line: usize) -> usize {
 }
 
 /// The hint of the line of a certificate's text, counted from 1, that is not as the grammar asks:
-/// what would be right, and whether it is a place that does not rise above the one before it.
+/// what would be right, whether it is a place that does not rise above the one before it, and
+/// whether the text is none of a certificate.
 ///
 /// # Errors
 ///
@@ -57,5 +59,6 @@ pub fn certificate_line_hint(alloc: Global, text: &[u8], line: usize) -> Result<
             "place {channel} {deleted} of flow {flow} stands behind place {last_channel} {last_deleted}"
         )?)?;
     }
+    note_kind(alloc, TextKind::Certificate, text, &mut hint)?;
     Ok(hint)
 }

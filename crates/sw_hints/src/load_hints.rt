@@ -1,5 +1,6 @@
 //! The hint of a load's fault.
 use crate::teller::{Teller, Text};
+use crate::text_kinds::{TextKind, is_of_other_kinds, kind_of_document, note_kind};
 use std::alloc::{AllocError, Global};
 use sw_config::Network;
 use sw_faults::{Hint, expected_text, help_text, hint_at_fault, meant_help, text_fault, text_of};
@@ -15,8 +16,11 @@ impl Teller<'_> {
         }
     }
 
-    /// What to do about a key that the document may not have.
-    fn key_help(self, name: &str) -> Text {
+    /// What to do about a key that the document may not have; nothing where it is no load.
+    fn key_help(self, load: &Table, name: &str) -> Text {
+        if kind_of_document(load).is_some_and(|kind| kind != TextKind::Load) {
+            return self.text("");
+        }
         if is_known(Section::Packet(0).keys(Version::Two), name) {
             return self.text("a key of a packet stands below a header [[packet]]");
         }
@@ -62,7 +66,7 @@ impl Teller<'_> {
             fault => expected_text(self.alloc, Version::Two, fault),
         }?;
         hint.help = match fault {
-            TextFault::UnknownKey(Section::Document, name) => self.key_help(name.as_str()),
+            TextFault::UnknownKey(Section::Document, name) => self.key_help(load, name.as_str()),
             TextFault::Key(KeyFault::UnknownName, section, _) => self.flow_help(load, *section),
             fault => help_text(self.alloc, load, fault),
         }?;
@@ -88,6 +92,9 @@ pub fn load_hint(
             text_fault(refused)?;
             hint.expected = expected_text(alloc, Version::Two, fault)?;
         }
+    }
+    if is_of_other_kinds(fault) {
+        note_kind(alloc, TextKind::Load, text, &mut hint)?;
     }
     Ok(hint)
 }

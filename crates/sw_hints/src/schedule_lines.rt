@@ -1,6 +1,7 @@
 //! The hint of a line of a schedule's text that is no step.
 use crate::step_words::{VERBS, Wanted, Wrong, first_name};
 use crate::teller::{Teller, Text};
+use crate::text_kinds::{TextKind, note_kind};
 use crate::text_lines::{line_hint, nth_line};
 use std::alloc::{AllocError, Global};
 use sw_config::Network;
@@ -86,5 +87,6 @@ pub fn schedule_line_hint(
     let expected = teller.right_words(wanted);
     let mut hint = line_hint(alloc, line as usize, words, rest, what, expected)?;
     hint.help = teller.word_help(wanted, rest)?;
+    note_kind(alloc, TextKind::Schedule, text, &mut hint)?;
     Ok(hint)
 }

@@ -46,6 +46,18 @@ pub(crate) fn first_name(line: &[u8]) -> Option<&str> {
     str::from_utf8(first_word(line).0).ok()
 }
 
+/// Does a line begin as a step does, with its verb or with a count before it?
+pub(crate) fn begins_step(line: &[u8]) -> bool {
+    let (word, behind) = first_word(line);
+    let (verb, behind) = match number(word, MAX_COUNT) {
+        Some(_) => first_word(behind.unwrap_or(&[])),
+        None => (word, behind),
+    };
+    // (a key of a table, as `reply =`, may be a verb too)
+    let is_key = behind.is_some_and(|rest| rest.trim_ascii_start().starts_with(b"="));
+    !is_key && str::from_utf8(verb).ok().and_then(wanted_behind).is_some()
+}
+
 /// What the words behind the first of a step have to be.
 fn wanted_behind(verb: &str) -> Option<&'static [Wanted]> {
     match verb {

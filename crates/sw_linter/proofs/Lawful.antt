@@ -1,19 +1,22 @@
 -- What is told is determined.
-use Rattle.std.proofs.Common.{◌≡◌, ◌+◌, ◌*◌, Bool, true, false, ◌&&◌, List, [], ◌∷◌, ◌++◌, length, Contains, Option, Some, None, filter, refl, sym, ap, ◌∙◌, subst}
-use Rattle.std.specs.Prelude.{find, flat_map, map, option_map, if◌then◌else◌}
+use Rattle.std.proofs.Common.{◌≡◌, ◌+◌, ◌*◌, ℕ, Bool, true, false, ◌&&◌, List, [], ◌∷◌, ◌++◌, length, Contains, Option, Some, None, filter, refl, sym, ap, ◌∙◌, subst}
+use Rattle.std.specs.Prelude.{◌==◌, ◌||◌, find, flat_map, map, not, option_and_then, option_map, slice_get, if◌then◌else◌}
 use Rattle.std.specs.List.{enumerate_from, list_any, range_with_len}
 use Rattle.std.specs.Option.{option_to_list}
 use Rattle.std.proofs.lemmas.Bool.{false≢true, or_from, or_parts}
 use Rattle.sw_topo.specs.Checked.{first_of}
 use Rattle.sw_topo.specs.Ports.{ports_of}
-use Rattle.sw_config.specs.Entries.{FlowEntry, Declaration, all_flows, routes_of}
+use Rattle.sw_config.specs.Entries.{FlowEntry, Declaration, all_flows, routes_of, target_of}
 use Rattle.sw_flow.proofs.Listed.{Contains-head}
+use Rattle.sw_circles.proofs.Lawful.{circlings_are_determined}
+use Rattle.sw_linter.specs.CirclingTexts.{circling_text}
 use Rattle.sw_linter.specs.declared.lint.Lint.{Lint}
-use Rattle.sw_linter.specs.declared.lint.Lint.TheVariants.{NoFlows, UnusedNode, UnusedSwitch, UnusedTarget, UnusedEntry, OneLinkedPort, LeadsBack, Opposed}
+use Rattle.sw_linter.specs.declared.lint.Lint.TheVariants.{NoFlows, UnusedNode, UnusedSwitch, UnusedTarget, UnusedEntry, OneLinkedPort, LeadsBack, Opposed, TwoInitiators, WrongInitiator, WrongTarget}
 use Rattle.sw_linter.specs.FlowPlaces.{FlowPlace}
-use Rattle.sw_linter.specs.Lints.{asks_on, back_by, by_entries, by_nodes, by_switches, can_block, doubtful, first_back, first_made, first_opposed, is_group, is_idle_target, is_used_entry, is_used_node, is_used_switch, leads_back, linked, lints_of, one_linked_port, only, opposed, told_of, unused, unused_entries, unused_entry, unused_node, unused_switch, unused_target}
-use Rattle.sw_linter.specs.LintTexts.{lint_text, note_text}
-use Rattle.sw_linter.specs.Laws.{LintTextsAreDetermined, LintsAreDetermined, NoFlowsIsToldAlone, NoteTextsAreDetermined}
+use Rattle.sw_linter.specs.Lints.{addressed, by_flows, differing, is_stranger, left_byte, of_flow, other_initiator, two_initiators, wrong_at, wrong_initiator, wrong_target, asks_on, back_by, by_entries, by_nodes, by_switches, can_block, doubtful, first_back, first_made, first_opposed, is_group, is_idle_target, is_used_entry, is_used_node, is_used_switch, leads_back, linked, lints_of, one_linked_port, only, opposed, told_of, unused, unused_entries, unused_entry, unused_node, unused_switch, unused_target}
+use Rattle.sw_linter.specs.LintTexts.{lint_text}
+use Rattle.sw_linter.specs.Notes.{circling_note, lint_note}
+use Rattle.sw_linter.specs.Laws.{LintTextsAreDetermined, LintsAreDetermined, NoFlowsIsToldAlone, NotesAreDetermined}
 use Rattle.sw_linter.proofs.OneList.{same_all}
 use Rattle.sw_linter.proofs.Tests.{any_passes}
 
@@ -21,10 +24,18 @@ pub lints_determined : LintsAreDetermined
 lints_determined d told other a b = a.told ∙ ap (lints_of d) (same_all d (all_flows d) a.all b.all a.places b.places) ∙ sym b.told
 
 pub texts_determined : LintTextsAreDetermined
-texts_determined d told other a b = a.worded ∙ ap (map (lint_text d)) (lints_determined d a.lints b.lints a.told b.told) ∙ sym b.worded
+texts_determined d told other a b =
+    a.worded
+    ∙ ap (λ circlings. map (circling_text d) circlings ++ map (lint_text d) a.lints) (circlings_are_determined d a.circlings b.circlings a.circling b.circling)
+    ∙ ap (λ lints. map (circling_text d) b.circlings ++ map (lint_text d) lints) (lints_determined d a.lints b.lints a.told b.told)
+    ∙ sym b.worded
 
-pub notes_determined : NoteTextsAreDetermined
-notes_determined d told other a b = a.worded ∙ ap (map (note_text d)) (lints_determined d a.lints b.lints a.told b.told) ∙ sym b.worded
+pub notes_determined : NotesAreDetermined
+notes_determined d told other a b =
+    a.worded
+    ∙ ap (λ circlings. map (circling_note d) circlings ++ map (lint_note d) a.lints) (circlings_are_determined d a.circlings b.circlings a.circling b.circling)
+    ∙ ap (λ lints. map (circling_note d) b.circlings ++ map (lint_note d) lints) (lints_determined d a.lints b.lints a.told b.told)
+    ∙ sym b.worded
 
 -- ---- that there are no flows is told alone
 
@@ -60,8 +71,25 @@ quiet_mapped : {A : Type 0} (make : A → Lint) (o : Option A) → ((x : A) → 
 quiet_mapped make None each = refl
 quiet_mapped make (Some x) each = or_from (is_no_flows (make x)) false (each x) refl
 
-quiet_kinds : (d : Declaration) (all : List FlowPlace) → IsQuiet (unused d all ++ doubtful d all)
-quiet_kinds d all =
+quiet_joined : {A : Type 0} (make : A → Option Lint) (o : Option A) → ((x : A) → IsQuiet (option_to_list (make x))) → IsQuiet (option_to_list (option_and_then make o))
+quiet_joined make None each = refl
+quiet_joined make (Some x) each = each x
+
+quiet_unless : (b : Bool) (lint : Lint) → is_no_flows lint ≡ false → IsQuiet (option_to_list (if b then None else Some lint))
+quiet_unless true lint is = refl
+quiet_unless false lint is = or_from (is_no_flows lint) false is refl
+
+quiet_flows : (d : Declaration) (make : Declaration → ℕ → FlowEntry → Option Lint) → ((i : ℕ) (f : FlowEntry) → IsQuiet (option_to_list (make d i f))) → IsQuiet (by_flows d make)
+quiet_flows d make each = quiet_all (of_flow d make) (range_with_len 0 (length d.flows)) (λ i. quiet_joined (make d i) (slice_get d.flows i) (each i))
+
+quiet_addressed : (d : Declaration) → IsQuiet (addressed d)
+quiet_addressed d =
+    quiet_append (by_flows d wrong_target) _ (quiet_flows d wrong_target (λ i f. quiet_joined (λ address. option_and_then (λ target. wrong_at i address target.logical) (target_of d.nodes f.to)) (left_byte f) (λ address. quiet_joined (λ target. wrong_at i address target.logical) (target_of d.nodes f.to) (λ target. quiet_unless (address == target.logical) (WrongTarget i address target.logical) refl))))
+    (quiet_append (by_flows d wrong_initiator) _ (quiet_flows d wrong_initiator (λ i f. quiet_joined (λ r. if r.initiator == 254 || not (is_stranger d f.from r.initiator) then None else Some (WrongInitiator i r.initiator)) f.reply (λ r. quiet_unless (r.initiator == 254 || not (is_stranger d f.from r.initiator)) (WrongInitiator i r.initiator) refl)))
+    (quiet_flows d two_initiators (λ i f. quiet_joined (λ r. first_made (differing d i f r.initiator) (range_with_len 0 i)) f.reply (λ r. quiet_first (differing d i f r.initiator) (range_with_len 0 i) (λ j. quiet_mapped (λ one. TwoInitiators j i one r.initiator) (option_and_then (other_initiator f r.initiator) (slice_get d.flows j)) (λ one. refl))))))
+
+quiet_slips : (d : Declaration) (all : List FlowPlace) → IsQuiet (unused d all ++ doubtful d all)
+quiet_slips d all =
     quiet_append (unused d all) (doubtful d all)
     (quiet_append (by_nodes d (unused_node d)) _ (quiet_all (unused_node d) (range_with_len 0 (length d.nodes)) (λ n. quiet_if (is_used_node d n) [] (UnusedNode n ∷ []) refl refl))
     (quiet_append (by_switches d (unused_switch d all)) _ (quiet_all (unused_switch d all) (range_with_len 0 (length d.switches)) (λ s. quiet_if (is_used_switch d all s) [] (UnusedSwitch s ∷ []) refl refl))
@@ -77,6 +105,9 @@ quiet_kinds d all =
     (quiet_all (opposed d all) (range_with_len 0 (length d.links)) (λ link.
     quiet_first (first_opposed d all link (2 * link + 1)) (filter (asks_on (2 * link)) all) (λ v.
     quiet_mapped (λ w. Opposed link v.number w.number) (find (λ w. asks_on (2 * link + 1) w && can_block d v w) all) (λ w. refl))))))
+
+quiet_kinds : (d : Declaration) (all : List FlowPlace) → IsQuiet ((unused d all ++ doubtful d all) ++ addressed d)
+quiet_kinds d all = quiet_append (unused d all ++ doubtful d all) (addressed d) (quiet_slips d all) (quiet_addressed d)
 
 pub alone : NoFlowsIsToldAlone
 alone d told a = record { exactly = (to d.flows refl a.told, λ none. subst (λ (l : List Lint). Contains l NoFlows) (sym (only_that none)) (Contains-head NoFlows [])); alone = only_that }

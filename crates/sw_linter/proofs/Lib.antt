@@ -13,5 +13,8 @@ pub mod LinkedPorts
 pub mod Words
 pub mod Lawful
 pub mod Worded
+mod Strangers
 mod KindsOfSlips
 pub mod Rooms
+mod Circles
+mod Initiators

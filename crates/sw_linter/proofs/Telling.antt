@@ -5,7 +5,7 @@ use Rattle.std.specs.List.{list_any, range_with_len}
 use Rattle.std.specs.Option.{option_map_or, option_to_list}
 use Rattle.std.proofs.lemmas.Bool.{and_from, and_parts}
 use Rattle.std.proofs.lemmas.List.Elements.{All-contains}
-use Rattle.std.proofs.lemmas.Option.{get_or_from_slice_get, slice_get_within}
+use Rattle.std.proofs.lemmas.Option.{slice_get_within}
 use Rattle.sw_topo.specs.Ports.{ports_of}
 use Rattle.sw_topo.specs.Wiring.{out_of, partner}
 use Rattle.sw_topo.proofs.Ends.{port_starts}
@@ -15,11 +15,12 @@ use Rattle.sw_config.specs.Entries.{FlowEntry, Declaration, SwitchEntry, reply_f
 use Rattle.sw_config.specs.Valid.{IsSwitch, IsValid}
 use Rattle.sw_config.proofs.Steps.{length-link_ends}
 use Rattle.sw_flow.specs.Places.{ends_of}
+use Rattle.sw_circles.proofs.Lawful.{Contains-at}
 use Rattle.sw_linter.specs.declared.asking.Asking.{Asking}
 use Rattle.sw_linter.specs.declared.lint.Lint.{Lint}
 use Rattle.sw_linter.specs.declared.lint.Lint.TheVariants.{LeadsBack, NoFlows, UnusedEntry, UnusedNode, UnusedSwitch, UnusedTarget}
 use Rattle.sw_linter.specs.FlowPlaces.{FlowPlace, AreFlowPlaces}
-use Rattle.sw_linter.specs.Lints.{AreLints, addresses, asks_on, back_by, by_entries, comes_by, comes_to, doubtful, first_by, first_pair, is_group, is_matched, is_used_entry, is_used_switch, leads_back, linked, one_linked_port, opposed, starts_at, told_of, unused, unused_entries, unused_entry, unused_node, unused_switch, unused_target}
+use Rattle.sw_linter.specs.Lints.{addressed, AreLints, addresses, asks_on, back_by, by_entries, comes_by, comes_to, doubtful, first_by, first_pair, is_group, is_matched, is_used_entry, is_used_switch, leads_back, linked, one_linked_port, opposed, starts_at, told_of, unused, unused_entries, unused_entry, unused_node, unused_switch, unused_target}
 use Rattle.sw_linter.specs.Marks.{AreFound, MarkLists, arrival_key, asker, back_at, doubtful_by, end_key, first_led, led_key, no_places, start_key, with_place, is_met_by, is_used_by, leads_back_by, nodes_of, note_at, opposed_by, pair_by, pair_of, unused_by, unused_entry_by, unused_node_by, unused_switch_by, unused_target_by}
 use Rattle.sw_graph.specs.Rounds.{is_marked}
 use Rattle.sw_linter.proofs.Keys.{arrives_key, comes_key, comes_not, ends_key, leads, matched, starts_key}
@@ -44,9 +45,6 @@ any_swap {X} p q bytes xs = same_bool _ _ (λ is.
     let at = passing (λ b. q b v.element) bytes both.1 in
     any_passes (λ b. list_any (λ v. p v && q b v) xs) bytes at.element at.listed
     (any_passes (λ v. p v && q at.element v) xs v.element v.listed (and_from (p v.element) (q at.element v.element) both.0 at.passes)))
-
-Contains-at : {X : Type 0} (xs : List X) (i : ℕ) (x : X) → slice_get xs i ≡ Some x → Contains xs x
-Contains-at xs i x is = (i, slice_get_within xs i x is, get_or_from_slice_get xs i x x is)
 
 -- an entry of a table is for logical addresses
 route_is : (d : Declaration) (s : ℕ) (r : Route) → IsValid d → Contains (routes_of d.switches s) r → IsRoute r
@@ -129,13 +127,13 @@ pub told_with_flows : (d : Declaration) (lints : List Lint) → IsValid d → (d
 told_with_flows d lints valid some f = record {
   all = f.noted.all;
   places = f.noted.places;
-  told = f.told ∙ ap (λ k. unused_by d (nodes_of d) k ++ doubtful_by d k) f.noted.noted ∙ ap₂ (λ k l. k ++ l) (unused_same d valid f.noted.all (fold (with_place d) (no_places d) f.noted.all) a) (doubtful_same d valid f.noted.all (fold (with_place d) (no_places d) f.noted.all) a) ∙ sym (by d.flows some);
+  told = f.told ∙ ap (λ k. (unused_by d (nodes_of d) k ++ doubtful_by d k) ++ addressed d) f.noted.noted ∙ ap₂ (λ k l. (k ++ l) ++ addressed d) (unused_same d valid f.noted.all (fold (with_place d) (no_places d) f.noted.all) a) (doubtful_same d valid f.noted.all (fold (with_place d) (no_places d) f.noted.all) a) ∙ sym (by d.flows some);
 }
   where
     a : AreMarks d f.noted.all (fold (with_place d) (no_places d) f.noted.all)
     a = marks_of d f.noted.all
 
-    by : (flows : List FlowEntry) → (flows ≡ [] → ⊥) → told_of d f.noted.all flows ≡ unused d f.noted.all ++ doubtful d f.noted.all
+    by : (flows : List FlowEntry) → (flows ≡ [] → ⊥) → told_of d f.noted.all flows ≡ (unused d f.noted.all ++ doubtful d f.noted.all) ++ addressed d
     by [] none = absurd (none refl)
     by (g ∷ gs) none = refl
 

@@ -1,5 +1,6 @@
 -- Words of links: of one that the network does not have, and of one between two targets.
-use Rattle.std.proofs.Common.{◌≡◌, ℕ, ◌*◌, ◌≤◌, List, [], ◌∷◌, ◌++◌, length, ap, ap₂, append_assoc, arith}
+use Rattle.std.specs.List.{join_by}
+use Rattle.std.proofs.Common.{refl, ◌≡◌, ℕ, ◌*◌, ◌≤◌, List, [], ◌∷◌, ◌++◌, length, ap, ap₂, append-nil, append_assoc, arith}
 use Rattle.std.specs.Prelude.{codes}
 use Rattle.std.specs.Option.{option_map_or}
 use Rattle.std.proofs.lemmas.Option.{slice_get_past}
@@ -29,3 +30,13 @@ pub opposed_is : (f e c g h p q r s t : List ℕ) → f ≡ p → e ≡ q → c 
     ≡ spaced (codes "commands of" ∷ spaced (p ∷ codes "to" ∷ q ∷ []) ∷ codes "go over" ∷ r ∷ codes "and of" ∷ spaced (s ∷ codes "to" ∷ t ∷ [])
     ∷ codes "the other way: while both targets answer, each can wait for the other" ∷ [])
 opposed_is f e c g h p q r s t one one_end channel other other_end = rw (one, one_end, channel, other, other_end) (simp append_assoc)
+
+pub initiator_is : (i f s p q : List ℕ) → f ≡ p → s ≡ q
+    → codes "the initiator logical address " ++ (i ++ (codes " of " ++ (f ++ (codes " is no known address of " ++ s))))
+    ≡ spaced (codes "the initiator logical address" ∷ i ∷ codes "of" ∷ p ∷ codes "is no known address of" ∷ q ∷ [])
+initiator_is i f s p q name start = rw (name, start) refl
+
+pub initiators_are : (f g s e m n p q t h a b : List ℕ) → f ≡ p → g ≡ q → s ≡ t → e ≡ h → m ≡ a → n ≡ b
+    → join_by (λ (x : List ℕ). x) (codes " ") (f ∷ codes "and" ∷ g ∷ codes "go from" ∷ s ∷ codes "to" ∷ e ∷ codes "with different initiator logical addresses:" ∷ m ∷ codes "and" ∷ n ∷ [])
+    ≡ spaced (p ∷ codes "and" ∷ q ∷ codes "go from" ∷ t ∷ codes "to" ∷ h ∷ codes "with different initiator logical addresses:" ∷ a ∷ codes "and" ∷ b ∷ [])
+initiators_are f g s e m n p q t h a b one other start end first second = rw (one, other, start, end, first, second, append-nil b) refl

@@ -2,7 +2,8 @@
 use Rattle.std.specs.Prelude.{◌≡◌, ◌↔◌, ℕ, List, [], ◌∷◌, Contains}
 use Rattle.sw_config.specs.Entries.{Declaration}
 use Rattle.sw_linter.specs.Lints.{AreLints}
-use Rattle.sw_linter.specs.LintTexts.{AreLintTexts, AreNoteTexts}
+use Rattle.sw_linter.specs.LintTexts.{AreLintTexts}
+use Rattle.sw_linter.specs.Notes.{AreNotes, NoteView}
 use Rattle.sw_linter.specs.declared.lint.Lint.{Lint}
 use Rattle.sw_linter.specs.declared.lint.Lint.TheVariants.{NoFlows}
 
@@ -14,9 +15,9 @@ LintsAreDetermined = (d : Declaration) (told other : List Lint) → AreLints d t
 abbrev pub LintTextsAreDetermined : Type 0
 LintTextsAreDetermined = (d : Declaration) (told other : List (List ℕ)) → AreLintTexts d told → AreLintTexts d other → told ≡ other
 
--- and its notes are
-abbrev pub NoteTextsAreDetermined : Type 0
-NoteTextsAreDetermined = (d : Declaration) (told other : List (List ℕ)) → AreNoteTexts d told → AreNoteTexts d other → told ≡ other
+-- and the notes on it are
+abbrev pub NotesAreDetermined : Type 0
+NotesAreDetermined = (d : Declaration) (told other : List NoteView) → AreNotes d told → AreNotes d other → told ≡ other
 
 -- That a network has no flows is told exactly where it has none, and then alone.
 pub record IsToldAlone (d : Declaration) (told : List Lint) : Type 0 where

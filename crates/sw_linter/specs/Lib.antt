@@ -1,7 +1,10 @@
 pub mod FlowPlaces
 pub mod Alike
 pub mod Lints
+pub mod EndNames
+pub mod CirclingTexts
 pub mod LintTexts
+pub mod Notes
 pub mod Marks
 pub mod Laws
 pub mod InWords

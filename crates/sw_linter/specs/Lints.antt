@@ -1,5 +1,5 @@
 -- What in a network is probably a slip, although it is valid (this project's choice).
-use Rattle.std.specs.Prelude.{◌≡◌, ℕ, ◌+◌, ◌*◌, ◌-◌, ◌==◌, ◌&&◌, ◌||◌, Bool, false, not, nat_lt, is_some, List, [], ◌∷◌, ◌++◌, filter, find, flat_map, length, Option, Some, None, option_map, slice_get, if◌then◌else◌}
+use Rattle.std.specs.Prelude.{◌≡◌, ℕ, ◌+◌, ◌*◌, ◌-◌, ◌==◌, ◌&&◌, ◌||◌, Bool, false, not, nat_lt, is_some, List, [], ◌∷◌, ◌++◌, filter, filter_map, find, flat_map, length, Option, Some, None, option_and_then, option_map, slice_get, if◌then◌else◌}
 use Rattle.std.specs.List.{enumerate_from, list_any, range_with_len}
 use Rattle.std.specs.Option.{option_map_or, option_to_list}
 use Rattle.sw_topo.specs.Checked.{first_of}
@@ -13,7 +13,7 @@ use Rattle.sw_flow.specs.Places.{end_of, ends_of}
 use Rattle.sw_output.specs.LinkedPorts.{has_link}
 use Rattle.sw_linter.specs.FlowPlaces.{FlowPlace, AreAllPlaces, leading_byte}
 use Rattle.sw_linter.specs.declared.lint.Lint.{Lint}
-use Rattle.sw_linter.specs.declared.lint.Lint.TheVariants.{NoFlows, UnusedNode, UnusedSwitch, UnusedTarget, UnusedEntry, OneLinkedPort, LeadsBack, Opposed}
+use Rattle.sw_linter.specs.declared.lint.Lint.TheVariants.{NoFlows, UnusedNode, UnusedSwitch, UnusedTarget, UnusedEntry, OneLinkedPort, LeadsBack, Opposed, TwoInitiators, WrongInitiator, WrongTarget}
 
 -- the first that is made of the elements, one after the other
 abbrev pub first_made : {A B : Type 0} → (A → Option B) → List A → Option B
@@ -159,7 +159,67 @@ first_pair d all link = first_made (first_opposed d all link (2 * link + 1)) (fi
 abbrev pub opposed : Declaration → List FlowPlace → ℕ → List Lint
 opposed d all link = option_to_list (first_pair d all link)
 
+-- ---- logical addresses (ECSS-E-ST-50-52C, the fields of a command and of a reply)
+
+-- the first of the address bytes that are left where packets of the flow end
+abbrev pub left_byte : FlowEntry → Option ℕ
+left_byte f = if f.left == 0 then None else slice_get f.address (length f.address - f.left)
+
+-- the address is not the target's logical address
+abbrev pub wrong_at : ℕ → ℕ → ℕ → Option Lint
+wrong_at i address logical = if address == logical then None else Some (WrongTarget i address logical)
+
+-- packets of the flow come to a target with an address that isn't its own
+abbrev pub wrong_target : Declaration → ℕ → FlowEntry → Option Lint
+wrong_target d i f = option_and_then (λ address. option_and_then (λ target. wrong_at i address target.logical) (target_of d.nodes f.to)) (left_byte f)
+
+-- the address with which packets of the flow come to node n, if they do
+abbrev pub address_to : ℕ → FlowEntry → Option ℕ
+address_to n f = if f.to == n then left_byte f else None
+
+-- the addresses that node n is known to have: its logical address as a target, and those with which flows come to it
+abbrev pub known_addresses : Declaration → ℕ → List ℕ
+known_addresses d n = option_to_list (option_map (λ target. target.logical) (target_of d.nodes n)) ++ filter_map (address_to n) d.flows
+
+-- there are some, and this is none of them
+abbrev pub is_none_of : List ℕ → ℕ → Bool
+is_none_of [] address = false
+is_none_of (x ∷ xs) address = not (list_any (λ own. own == address) (x ∷ xs))
+
+abbrev pub is_stranger : Declaration → ℕ → ℕ → Bool
+is_stranger d n address = is_none_of (known_addresses d n) address
+
+-- replies of the flow go to an address that its node is not known to have; 254 is that of a node without one
+abbrev pub wrong_initiator : Declaration → ℕ → FlowEntry → Option Lint
+wrong_initiator d i f =
+    option_and_then (λ r. if r.initiator == 254 || not (is_stranger d f.from r.initiator) then None else Some (WrongInitiator i r.initiator)) f.reply
+
+-- the initiator address of flow g, if it goes from the same node to the same node as f and the address is another one
+abbrev pub other_initiator : FlowEntry → ℕ → FlowEntry → Option ℕ
+other_initiator f initiator g =
+    option_and_then (λ r. if (g.from == f.from && g.to == f.to) && not (r.initiator == initiator) then Some r.initiator else None) g.reply
+
+-- that of the flow of number j
+abbrev pub differing : Declaration → ℕ → FlowEntry → ℕ → ℕ → Option Lint
+differing d i f initiator j =
+    option_map (λ one. TwoInitiators j i one initiator) (option_and_then (other_initiator f initiator) (slice_get d.flows j))
+
+-- the first flow before this one that goes from the same node to the same node with another initiator address
+abbrev pub two_initiators : Declaration → ℕ → FlowEntry → Option Lint
+two_initiators d i f = option_and_then (λ r. first_made (differing d i f r.initiator) (range_with_len 0 i)) f.reply
+
+-- what is made of the declared flow of that number
+abbrev pub of_flow : Declaration → (Declaration → ℕ → FlowEntry → Option Lint) → ℕ → List Lint
+of_flow d make i = option_to_list (option_and_then (make d i) (slice_get d.flows i))
+
+-- of each declared flow
+abbrev pub by_flows : Declaration → (Declaration → ℕ → FlowEntry → Option Lint) → List Lint
+by_flows d make = flat_map (of_flow d make) (range_with_len 0 (length d.flows))
+
 -- ---- all
+
+abbrev pub addressed : Declaration → List Lint
+addressed d = by_flows d wrong_target ++ (by_flows d wrong_initiator ++ by_flows d two_initiators)
 
 abbrev pub unused : Declaration → List FlowPlace → List Lint
 unused d all =
@@ -174,7 +234,7 @@ doubtful d all =
 -- where there are no flows, that alone: all else would be unused
 abbrev pub told_of : Declaration → List FlowPlace → List FlowEntry → List Lint
 told_of d all [] = NoFlows ∷ []
-told_of d all (f ∷ fs) = unused d all ++ doubtful d all
+told_of d all (f ∷ fs) = (unused d all ++ doubtful d all) ++ addressed d
 
 -- all that is told of a network whose flows have these places, in this order
 abbrev pub lints_of : Declaration → List FlowPlace → List Lint

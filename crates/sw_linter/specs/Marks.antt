@@ -14,7 +14,9 @@ use Rattle.sw_config.specs.Limits.{may_make_wait}
 use Rattle.sw_flow.specs.declared.place.Place.{Place}
 use Rattle.sw_flow.specs.Places.{end_of, ends_of, IsPlaceList}
 use Rattle.sw_linter.specs.FlowPlaces.{FlowPlace, AreFlowPlaces, leading_byte, places_of_flow}
-use Rattle.sw_linter.specs.Lints.{by_entries, by_links, by_nodes, by_switches, first_made, is_group, linked, one_linked_port}
+use Rattle.sw_linter.specs.Lints.{addressed, by_entries, by_links, by_nodes, by_switches, first_made, is_group, linked, of_flow, one_linked_port, two_initiators, wrong_initiator, wrong_target}
+use Rattle.sw_linter.specs.declared.addresses.AddressSlip.{AddressSlip}
+use Rattle.sw_linter.specs.declared.addresses.AddressSlip.TheVariants.{Target, Initiator, Initiators}
 use Rattle.sw_linter.specs.declared.asking.Asking.{Asking}
 use Rattle.sw_linter.specs.declared.entries.EntrySlip.{EntrySlip}
 use Rattle.sw_linter.specs.declared.entries.EntrySlip.TheVariants.{Unused, OneLinked, Back}
@@ -238,15 +240,22 @@ doubtful_by d m =
     by_switches d (λ s. by_entries d (one_linked_port d s) s)
     ++ (by_switches d (λ s. by_entries d (leads_back_by d m s) s) ++ by_links d (opposed_by m))
 
+-- what is told of the logical addresses of the flow of that number, by what is looked for
+abbrev pub address_lint : Declaration → AddressSlip → ℕ → List Lint
+address_lint d Target = of_flow d wrong_target
+address_lint d Initiator = of_flow d wrong_initiator
+address_lint d Initiators = of_flow d two_initiators
+
 -- ---- one kind of slip after the other
 
--- how many nodes, switches or links there are to look at
+-- how many nodes, switches, links or declared flows there are to look at
 abbrev pub count_of : Declaration → Slip → ℕ
 count_of d slip.Node = length d.nodes
 count_of d slip.Switch = length d.switches
 count_of d slip.Target = length d.nodes
 count_of d (slip.Entry entry) = length d.switches
 count_of d slip.Link = length d.links
+count_of d (slip.Address address) = length d.flows
 
 -- what is told of the one of that number
 abbrev pub slip_at : Declaration → NodeLists → MarkLists → Slip → ℕ → List Lint
@@ -255,6 +264,7 @@ slip_at d n m slip.Switch = unused_switch_by m
 slip_at d n m slip.Target = unused_target_by d n
 slip_at d n m (slip.Entry entry) = λ s. by_entries d (entry_lint_by d m entry s) s
 slip_at d n m slip.Link = opposed_by m
+slip_at d n m (slip.Address address) = address_lint d address
 
 -- of all of them
 abbrev pub slip_lints : Declaration → NodeLists → MarkLists → Slip → List Lint
@@ -264,4 +274,4 @@ slip_lints d n m kind = flat_map (slip_at d n m kind) (range_with_len 0 (count_o
 pub record AreFound (d : Declaration) (lints : List Lint) : Type 0 where
   pub marks : MarkLists
   pub noted : IsNoted d marks
-  pub told : lints ≡ unused_by d (nodes_of d) marks ++ doubtful_by d marks
+  pub told : lints ≡ (unused_by d (nodes_of d) marks ++ doubtful_by d marks) ++ addressed d

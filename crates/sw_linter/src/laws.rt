@@ -1,6 +1,6 @@
 //! Laws of what is told. These functions do nothing: each is the proof of what its clause says.
 ghost use Rattle.sw_linter.specs.InWords.{AllPlacesAreListed, ToldInWords};
-ghost use Rattle.sw_linter.specs.Laws.{LintTextsAreDetermined, LintsAreDetermined, NoFlowsIsToldAlone, NoteTextsAreDetermined};
+ghost use Rattle.sw_linter.specs.Laws.{LintTextsAreDetermined, LintsAreDetermined, NoFlowsIsToldAlone, NotesAreDetermined};
 
 /// What is told of a network is determined.
 pub fn lints_are_determined()
@@ -10,7 +10,7 @@ pub fn lints_are_determined()
 /// The texts of what is told of a network are determined, and so are the notes on it.
 pub fn lint_texts_are_determined()
     ensures texts { LintTextsAreDetermined }
-    ensures notes { NoteTextsAreDetermined }
+    ensures notes { NotesAreDetermined }
 {}
 
 /// That a network has no flows is told exactly where it has none, and then alone.

@@ -42,6 +42,25 @@ pub enum Lint {
         onward: u16,
         back: u16,
     },
+    /// Packets of the flow come to a target with this address as the first of those that are left, which is not its logical address.
+    WrongTarget {
+        flow: u16,
+        address: u8,
+        logical: u8,
+    },
+    /// Replies of the flow lead with this initiator logical address, which is none that its node is known to have: by its target, or by a
+    /// flow to it.
+    WrongInitiator {
+        flow: u16,
+        initiator: u8,
+    },
+    /// The flow and an earlier one go from one node to one target, and their initiator logical addresses differ.
+    TwoInitiators {
+        earlier: u16,
+        flow: u16,
+        one: u8,
+        other: u8,
+    },
 }
 
 /// Adds what is told, if there is something.

@@ -2,6 +2,7 @@
 ghost use Rattle.std.specs.Prelude.{◌≡◌, ◌<◌, ◌++◌, OnOk};
 ghost use Rattle.sw_linter.specs.Marks.{count_of, slip_at, slip_lints};
 
+use crate::addresses::{AddressSlip, address_lint};
 use crate::entries::{EntrySlip, add_entries_of};
 use crate::lint::{Lint, add};
 use crate::marks::Marks;
@@ -22,9 +23,11 @@ pub(crate) enum Slip {
     Entry(EntrySlip),
     /// A link with targets on both sides, one of which may make commands wait.
     Link,
+    /// A logical address of a flow.
+    Address(AddressSlip),
 }
 
-/// What is told of the node, the switch or the link of that number.
+/// What is told of the node, the switch, the link or the declared flow of that number.
 fn add_at(
     network: &Network,
     nodes: &NodeMarks,
@@ -46,10 +49,11 @@ fn add_at(
             add_entries_of(network, marks, entry, number, routes, lints)
         }
         Slip::Link => add(marks.opposed_flows(number), lints),
+        Slip::Address(address) => add(address_lint(network, address, number), lints),
     }
 }
 
-/// How many nodes, switches or links there are to look at.
+/// How many nodes, switches, links or declared flows there are to look at.
 fn count_of(network: &Network, slip: Slip) -> u16
     ensures { result ≡ count_of network.now slip }
 {
@@ -57,6 +61,7 @@ fn count_of(network: &Network, slip: Slip) -> u16
         Slip::Node | Slip::Target => network.nodes(),
         Slip::Switch | Slip::Entry(_) => network.switches(),
         Slip::Link => network.links(),
+        Slip::Address(_) => network.declared_flows(),
     }
 }
 

@@ -2,8 +2,10 @@
 ghost use Rattle.std.specs.Prelude.{◌≡◌, ◌∷◌, [], ◌++◌, ◌*◌, IfOk, OnOk, map, string_bytes};
 ghost use Rattle.sw_output.specs.ChannelTexts.{channel_text};
 ghost use Rattle.sw_output.specs.Lines.{spaced};
-ghost use Rattle.sw_linter.specs.LintTexts.{AreLintTexts, AreNoteTexts, cure_words, end_name, entry_at_words, lint_text, note_text};
+ghost use Rattle.sw_linter.specs.EndNames.{end_name, start_name};
+ghost use Rattle.sw_linter.specs.LintTexts.{AreLintTexts, entry_at_words, lint_text};
 
+use crate::circling_words::add_circlings;
 use crate::finding::lints;
 use crate::lint::Lint;
 use std::alloc::{AllocError, Global};
@@ -27,11 +29,22 @@ fn of_entry(
 }
 
 /// The node to which the flow goes.
-fn end_name(network: &Network, flow: u16) -> &str
+pub(crate) fn end_name(network: &Network, flow: u16) -> &str
     ensures { result.now ≡ end_name network.now flow }
 {
     if flow < network.flows() {
         node_name(network, network.flow(flow).to())
+    } else {
+        ""
+    }
+}
+
+/// The node from which the flow goes.
+fn start_name(network: &Network, flow: u16) -> &str
+    ensures { result.now ≡ start_name network.now flow }
+{
+    if flow < network.flows() {
+        node_name(network, network.flow(flow).from())
     } else {
         ""
     }
@@ -103,8 +116,69 @@ fn opposed_text(
     )
 }
 
+fn wrong_target(
+    alloc: Global,
+    network: &Network,
+    flow: u16,
+    address: u8,
+    logical: u8,
+) -> Result<String, AllocError>
+    ensures { IfOk result (λ s. string_bytes s ≡ lint_text network.now (Lint.WrongTarget flow address logical)) }
+{
+    let name = flow_name(network, flow);
+    let end = end_name(network, flow);
+    format!(in alloc;
+        "packets of {name} come to {end} with logical address {address} in place of {logical}"
+    )
+}
+
+fn wrong_initiator(
+    alloc: Global,
+    network: &Network,
+    flow: u16,
+    initiator: u8,
+) -> Result<String, AllocError>
+    ensures { IfOk result (λ s. string_bytes s ≡ lint_text network.now (Lint.WrongInitiator flow initiator)) }
+{
+    let name = flow_name(network, flow);
+    let start = start_name(network, flow);
+    format!(in alloc;
+        "the initiator logical address {initiator} of {name} is no known address of {start}"
+    )
+}
+
+fn two_initiators(
+    alloc: Global,
+    network: &Network,
+    flows: (u16, u16),
+    initiators: (u8, u8),
+) -> Result<String, AllocError>
+    ensures { IfOk result (λ s. string_bytes s ≡ lint_text network.now (Lint.TwoInitiators flows.0 flows.1 initiators.0 initiators.1)) }
+{
+    let earlier = flow_name(network, flows.0);
+    let name = flow_name(network, flows.1);
+    let start = start_name(network, flows.1);
+    let end = end_name(network, flows.1);
+    let one = format!(in alloc; "{}", initiators.0)?;
+    let other = format!(in alloc; "{}", initiators.1)?;
+    [
+        earlier,
+        "and",
+        name,
+        "go from",
+        start,
+        "to",
+        end,
+        "with different initiator logical addresses:",
+        one.as_str(),
+        "and",
+        other.as_str(),
+    ]
+    .join(alloc, " ")
+}
+
 /// The text of what is told.
-fn lint_text(alloc: Global, network: &Network, lint: &Lint) -> Result<String, AllocError>
+pub(crate) fn lint_text(alloc: Global, network: &Network, lint: &Lint) -> Result<String, AllocError>
     ensures { IfOk result (λ s. string_bytes s ≡ lint_text network.now lint.now) }
 {
     match lint {
@@ -143,6 +217,20 @@ fn lint_text(alloc: Global, network: &Network, lint: &Lint) -> Result<String, Al
             flow,
         } => leads_back(alloc, network, *switch, *entry, *port, *flow),
         Lint::Opposed { link, onward, back } => opposed_text(alloc, network, *link, *onward, *back),
+        Lint::WrongTarget {
+            flow,
+            address,
+            logical,
+        } => wrong_target(alloc, network, *flow, *address, *logical),
+        Lint::WrongInitiator { flow, initiator } => wrong_initiator(
+            alloc, network, *flow, *initiator,
+        ),
+        Lint::TwoInitiators {
+            earlier,
+            flow,
+            one,
+            other,
+        } => two_initiators(alloc, network, (*earlier, *flow), (*one, *other)),
     }
 }
 
@@ -159,7 +247,8 @@ fn add_text(
     Ok(())
 }
 
-/// What in the network is probably a slip, each in a line of its own without LF, in the order of `lints`.
+/// What in the network is probably a slip, each in a line of its own without LF: flows whose packets can come back to where they were or of
+/// which none arrives, and then what `lints` tells, in its order.
 ///
 /// # Errors
 ///
@@ -167,60 +256,11 @@ fn add_text(
 pub fn lint_texts(alloc: Global, network: &Network) -> Result<Vec<String>, AllocError>
     ensures { IfOk result (λ v. AreLintTexts network.now (map string_bytes v.items)) }
 {
-    let told = lints(alloc, network)?;
     let mut texts = Vec::new(alloc);
+    add_circlings(alloc, network, &mut texts)?;
+    let told = lints(alloc, network)?;
     for lint in &told {
         add_text(alloc, network, lint, &mut texts)?;
-    }
-    Ok(texts)
-}
-
-/// What can prevent it.
-fn cure_words(lint: &Lint) -> &'static str
-    ensures { result.now ≡ cure_words lint.now }
-{
-    match lint {
-        Lint::Opposed { .. } => {
-            "; limits on unanswered commands ('outstanding', from version 3 on) can prevent that"
-        }
-        _ => "",
-    }
-}
-
-/// As a note on standard error.
-fn note_text(alloc: Global, network: &Network, lint: &Lint) -> Result<String, AllocError>
-    ensures { IfOk result (λ s. string_bytes s ≡ note_text network.now lint.now) }
-{
-    let mut text = lint_text(alloc, network, lint)?;
-    text.push_str(cure_words(lint))?;
-    Ok(text)
-}
-
-/// Adds the note on what is told.
-fn add_note(
-    alloc: Global,
-    network: &Network,
-    lint: &Lint,
-    texts: &mut Vec<String>,
-) -> Result<(), AllocError>
-    ensures { OnOk result (map string_bytes texts.new.items ≡ map string_bytes texts.old.items ++ note_text network.now lint.now ∷ []) }
-{
-    texts.push(note_text(alloc, network, lint)?)?;
-    Ok(())
-}
-
-/// The same as notes on standard error: behind the text of two targets on both sides of a link stands what can prevent that they wait.
-///
-/// # Errors
-///
-/// There is no memory for the texts, or for what finds what they tell.
-pub fn note_texts(alloc: Global, network: &Network) -> Result<Vec<String>, AllocError>
-    ensures { IfOk result (λ v. AreNoteTexts network.now (map string_bytes v.items)) }
-{
-    let told = lints(alloc, network)?;
-    let mut texts = Vec::new(alloc);
-    for lint in &told {
-        add_note(alloc, network, lint, &mut texts)?;
     }
     Ok(texts)
 }

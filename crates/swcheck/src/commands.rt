@@ -2,11 +2,15 @@
 ghost use Rattle.std.specs.Prelude.{◌<◌};
 ghost use Rattle.sw_args.specs.CommandLine.{HasWorkers};
 
-use crate::call_end::{CallEnd, call_end, faulty_end, noted_end};
-use crate::found_hints::{
-    check_hint, decide_hint, draw_hint, mend_hint, replay_hint, rmap_hint, route_hint, run_hint,
-    witness_hint,
+use crate::call_end::{
+    CallEnd, call_end, faulty_end, hint_text, hinted_end, is_noted, noted_end, second_end,
 };
+use crate::folder_ends::audit_end;
+use crate::found_hints::{
+    check_hint, decide_hint, draw_hint, hinted_cycle, mend_hint, replay_hint, report_hint,
+    rmap_hint, route_hint, run_hint, witness_hint,
+};
+use crate::notes::{explained_notes_on, flow_note_on};
 use crate::noting_writer::NotingWriter;
 use crate::objects::{RELEASE, object, objects};
 use crate::opened::open_both;
@@ -21,15 +25,18 @@ use sw_app::{report, route};
 use sw_app_rmap::{Request, rmap};
 use sw_args::Call;
 use sw_calls::{
-    Hints, check_files, check_files_in_form, decide_file, migrate_file, tell_refused, write_sample,
+    Telling, check_files, check_files_in_form, decide_file, migrate_file, tell_refused,
+    write_sample,
 };
 use sw_changes::{ChangeValues, margin, mend};
 use sw_engine::{CommandEnd, FileSystem, Lines, SystemFiles};
 use sw_explain::{DrawOptions, ExplainValues, draw, explain};
+use sw_hints::unmigrated_hint;
 use sw_json_verdicts::{AuditOptions, Disk, VerdictValues, audit, audit_one};
 use sw_runs::{RunValues, replay, witness};
 use sw_search::VerdictWorkers;
 use sw_text::Ended;
+use sw_text::statuses::FAULTY;
 
 /// What is told of words of `rmap` that ask for no command.
 const NO_ACCESS: &str = "ACTION is read or write, and --no-ack goes with write alone";
@@ -39,7 +46,7 @@ const NO_ACCESS: &str = "ACTION is read or write, and --no-ack goes with write a
 fn call_route<F: FileSystem, W: Write>(
     files: &F,
     alloc: Global,
-    hints: Hints,
+    telling: Telling,
     file: &str,
     flow: &str,
     json: bool,
@@ -51,16 +58,22 @@ fn call_route<F: FileSystem, W: Write>(
         Some(mut reader) => route(alloc, &mut reader, flow, &Lines, writer),
         None => CommandEnd::of_unread(),
     };
-    call_end(alloc, hints, file, end, |network, _text, found| {
-        route_hint(alloc, file, flow, network, found)
-    })
+    let notes = if is_noted(telling, end.ended) {
+        flow_note_on(alloc, &end.file, flow)
+    } else {
+        None
+    };
+    let ended = call_end(alloc, telling, file, end, |network, text, _second, found| {
+        route_hint(alloc, telling, (file, text), flow, network, found)
+    });
+    ended.with_notes(notes)
 }
 
 fn call_report<F: FileSystem, C: VerdictWorkers, W: Write>(
     files: &F,
     workers: &C,
     alloc: Global,
-    hints: Hints,
+    telling: Telling,
     file: &str,
     json: bool,
     writer: &mut W,
@@ -71,20 +84,23 @@ fn call_report<F: FileSystem, C: VerdictWorkers, W: Write>(
         Some(mut reader) => report(workers, alloc, &mut reader, &Lines, writer),
         None => CommandEnd::of_unread(),
     };
-    noted_end(alloc, hints, file, end, |_network, _text, _found| Ok(None))
+    noted_end(alloc, telling, file, end, |network, text, _second, found| {
+        report_hint(alloc, telling, (file, text), network, found)
+    })
 }
 
 fn call_decide<F: FileSystem, C: VerdictWorkers, W: Write>(
     files: &F,
     workers: &C,
     alloc: Global,
-    hints: Hints,
+    telling: Telling,
     file: &str,
     writer: &mut W,
 ) -> CallEnd {
     let end = decide_file(files, workers, alloc, file, writer);
-    noted_end(alloc, hints, file, end, |network, _text, found| {
-        decide_hint(alloc, file, network, found)
+    let cycle = hinted_cycle(workers, alloc, telling, &end);
+    noted_end(alloc, telling, file, end, |network, text, _second, found| {
+        decide_hint(alloc, telling, (file, text), network, found, &cycle)
     })
 }
 
@@ -92,7 +108,7 @@ fn call_explain<F: FileSystem, C: VerdictWorkers, W: Write>(
     files: &F,
     workers: &C,
     alloc: Global,
-    hints: Hints,
+    telling: Telling,
     file: &str,
     all: bool,
     json: bool,
@@ -104,14 +120,26 @@ fn call_explain<F: FileSystem, C: VerdictWorkers, W: Write>(
         Some(mut reader) => explain(workers, alloc, &mut reader, all, &Lines, writer),
         None => CommandEnd::of_unread(),
     };
-    call_end(alloc, hints, file, end, |_network, _text, _found| Ok(None))
+    let notes = if is_noted(telling, end.ended) {
+        explained_notes_on(workers, alloc, telling.notes, &end)
+    } else {
+        None
+    };
+    let ended = call_end(
+        alloc,
+        telling,
+        file,
+        end,
+        |_network, _text, _second, _found| Ok(None),
+    );
+    ended.with_notes(notes)
 }
 
 fn call_draw<F: FileSystem, C: VerdictWorkers, W: Write>(
     files: &F,
     workers: &C,
     alloc: Global,
-    hints: Hints,
+    telling: Telling,
     file: &str,
     options: &DrawOptions<'_>,
     writer: &mut W,
@@ -120,15 +148,19 @@ fn call_draw<F: FileSystem, C: VerdictWorkers, W: Write>(
         Some(mut reader) => draw(workers, alloc, &mut reader, options, &Lines, writer),
         None => CommandEnd::of_unread(),
     };
-    call_end(alloc, hints, file, end, |network, _text, found| {
-        draw_hint(alloc, file, options.flow, network, found)
-    })
+    call_end(
+        alloc,
+        telling,
+        file,
+        end,
+        |network, _text, _second, found| { draw_hint(alloc, file, options.flow, network, found) },
+    )
 }
 
 fn call_rmap<F: FileSystem, W: Write>(
     files: &F,
     alloc: Global,
-    hints: Hints,
+    telling: Telling,
     file: &str,
     request: &Request<'_>,
     writer: &mut W,
@@ -137,8 +169,8 @@ fn call_rmap<F: FileSystem, W: Write>(
         Some(mut reader) => rmap(alloc, &mut reader, request, &Lines, writer),
         None => CommandEnd::of_unread(),
     };
-    call_end(alloc, hints, file, end, |network, _text, found| {
-        rmap_hint(alloc, file, request.flow, network, found)
+    call_end(alloc, telling, file, end, |network, text, _second, found| {
+        rmap_hint(alloc, (file, text), request, network, found)
     })
 }
 
@@ -146,7 +178,7 @@ fn call_mend<F: FileSystem, C: VerdictWorkers, W: Write>(
     files: &F,
     workers: &C,
     alloc: Global,
-    hints: Hints,
+    telling: Telling,
     file: &str,
     pairs: bool,
     json: bool,
@@ -158,8 +190,8 @@ fn call_mend<F: FileSystem, C: VerdictWorkers, W: Write>(
         Some(mut reader) => mend(workers, alloc, &mut reader, pairs, &Lines, writer),
         None => CommandEnd::of_unread(),
     };
-    call_end(alloc, hints, file, end, |network, _text, found| {
-        mend_hint(alloc, file, network, found)
+    call_end(alloc, telling, file, end, |network, text, _second, found| {
+        mend_hint(alloc, (file, text), network, found)
     })
 }
 
@@ -167,7 +199,7 @@ fn call_margin<F: FileSystem, C: VerdictWorkers, W: Write>(
     files: &F,
     workers: &C,
     alloc: Global,
-    hints: Hints,
+    telling: Telling,
     file: &str,
     json: bool,
     writer: &mut W,
@@ -178,14 +210,20 @@ fn call_margin<F: FileSystem, C: VerdictWorkers, W: Write>(
         Some(mut reader) => margin(workers, alloc, &mut reader, &Lines, writer),
         None => CommandEnd::of_unread(),
     };
-    call_end(alloc, hints, file, end, |_network, _text, _found| Ok(None))
+    call_end(
+        alloc,
+        telling,
+        file,
+        end,
+        |_network, _text, _second, _found| Ok(None),
+    )
 }
 
 fn call_witness<F: FileSystem, C: VerdictWorkers, W: Write>(
     files: &F,
     workers: &C,
     alloc: Global,
-    hints: Hints,
+    telling: Telling,
     file: &str,
     tries: u32,
     seed: u32,
@@ -195,8 +233,8 @@ fn call_witness<F: FileSystem, C: VerdictWorkers, W: Write>(
         Some(mut reader) => witness(workers, alloc, &mut reader, tries, seed, &Lines, writer),
         None => CommandEnd::of_unread(),
     };
-    call_end(alloc, hints, file, end, |network, _text, found| {
-        witness_hint(alloc, file, network, found)
+    call_end(alloc, telling, file, end, |network, text, _second, found| {
+        witness_hint(alloc, (file, text), network, found)
     })
 }
 
@@ -206,7 +244,7 @@ fn call_check<F: FileSystem, C: VerdictWorkers, W: Write>(
     files: &F,
     workers: &C,
     alloc: Global,
-    hints: Hints,
+    telling: Telling,
     paths: (&str, &str),
     json: bool,
     writer: &mut W,
@@ -217,15 +255,19 @@ fn call_check<F: FileSystem, C: VerdictWorkers, W: Write>(
     } else {
         check_files(files, workers, alloc, paths.0, paths.1, writer)
     };
-    call_end(alloc, hints, paths.0, end, |network, text, found| {
-        check_hint(alloc, paths, network, text, found)
-    })
+    second_end(
+        alloc,
+        telling,
+        paths,
+        end,
+        |network, _text, second, found| { check_hint(alloc, paths, network, second, found) },
+    )
 }
 
 fn call_replay<F: FileSystem, W: Write>(
     files: &F,
     alloc: Global,
-    hints: Hints,
+    telling: Telling,
     file: &str,
     path: &str,
     json: bool,
@@ -241,15 +283,20 @@ fn call_replay<F: FileSystem, W: Write>(
         }
         None => CommandEnd::of_unread(),
     };
-    call_end(alloc, hints, file, end, |network, text, found| {
-        replay_hint(alloc, path, network, text, found)
-    })
+    let paths = (file, path);
+    second_end(
+        alloc,
+        telling,
+        paths,
+        end,
+        |network, _text, second, found| { replay_hint(alloc, path, network, second, found) },
+    )
 }
 
 fn call_run<'a, R: Files + Eprint + AllocGlobal + Threads + Wait + Sync, F: FileSystem, W: Write>(
     rt: &R,
     files: &F,
-    hints: Hints,
+    telling: Telling,
     job: &Job<'a>,
     writer: &mut NotingWriter<'a, W>,
 ) -> CallEnd
@@ -261,20 +308,32 @@ fn call_run<'a, R: Files + Eprint + AllocGlobal + Threads + Wait + Sync, F: File
     let alloc = rt.alloc();
     let end = run_load(rt, files, job, writer);
     tell_besides(rt, &end);
-    call_end(alloc, hints, job.network, end, |network, text, found| {
-        run_hint(alloc, job.load, network, text, found)
-    })
+    let paths = (job.network, job.load);
+    second_end(
+        alloc,
+        telling,
+        paths,
+        end,
+        |network, _text, second, found| { run_hint(alloc, job.load, network, second, found) },
+    )
 }
 
 fn call_migrate<F: FileSystem, W: Write>(
     files: &F,
     alloc: Global,
-    hints: Hints,
+    telling: Telling,
     file: &str,
     writer: &mut W,
 ) -> CallEnd {
     let end = migrate_file(files, alloc, file, writer);
-    faulty_end(alloc, hints, file, end.ended, &end.faulty)
+    match (end.ended, &end.faulty) {
+        // The text has no fault, and is of a later version or too long.
+        (Ended::Status(FAULTY), None) => {
+            let hint = hint_text(alloc, file, unmigrated_hint(alloc));
+            hinted_end(telling, end.ended, hint)
+        }
+        (ended, faulty) => faulty_end(alloc, telling, file, ended, faulty),
+    }
 }
 
 /// An audit of these files.
@@ -306,7 +365,7 @@ fn call_decide_object<F: FileSystem, C: VerdictWorkers, W: Write>(
     files: &F,
     workers: &C,
     alloc: Global,
-    hints: Hints,
+    telling: Telling,
     file: &str,
     writer: &mut W,
 ) -> CallEnd {
@@ -318,8 +377,9 @@ fn call_decide_object<F: FileSystem, C: VerdictWorkers, W: Write>(
     };
     let disk = Disk { files, folder: "" };
     let end = audit_one(workers, alloc, &disk, file, &options, writer);
-    call_end(alloc, hints, file, end, |network, _text, found| {
-        decide_hint(alloc, file, network, found)
+    let cycle = hinted_cycle(workers, alloc, telling, &end);
+    call_end(alloc, telling, file, end, |network, text, _second, found| {
+        decide_hint(alloc, telling, (file, text), network, found, &cycle)
     })
 }
 
@@ -333,7 +393,7 @@ pub(crate) fn run_call<
     rt: &R,
     files: &SystemFiles<'_, HostRuntime>,
     workers: &C,
-    hints: Hints,
+    telling: Telling,
     call: &Call<'a>,
     paths: &[&str],
     writer: &mut NotingWriter<'a, W>,
@@ -343,14 +403,14 @@ pub(crate) fn run_call<
     let alloc = rt.alloc();
     match *call {
         Call::Route { file, flow, json } => call_route(
-            files, alloc, hints, file, flow, json, writer,
+            files, alloc, telling, file, flow, json, writer,
         ),
         Call::Decide { file, json: true } => {
-            call_decide_object(files, workers, alloc, hints, file, writer)
+            call_decide_object(files, workers, alloc, telling, file, writer)
         }
-        Call::Decide { file, .. } => call_decide(files, workers, alloc, hints, file, writer),
+        Call::Decide { file, .. } => call_decide(files, workers, alloc, telling, file, writer),
         Call::Report { file, json } => call_report(
-            files, workers, alloc, hints, file, json, writer,
+            files, workers, alloc, telling, file, json, writer,
         ),
         Call::Check {
             file,
@@ -360,7 +420,7 @@ pub(crate) fn run_call<
             files,
             workers,
             alloc,
-            hints,
+            telling,
             (file, certificate),
             json,
             writer,
@@ -369,7 +429,7 @@ pub(crate) fn run_call<
             file,
             schedule,
             json,
-        } => call_replay(files, alloc, hints, file, schedule, json, writer),
+        } => call_replay(files, alloc, telling, file, schedule, json, writer),
         Call::Run {
             file,
             load,
@@ -388,11 +448,11 @@ pub(crate) fn run_call<
                 summary,
                 json,
             };
-            call_run(rt, files, hints, &job, writer)
+            call_run(rt, files, telling, &job, writer)
         }
-        Call::Migrate { file } => call_migrate(files, alloc, hints, file, writer),
+        Call::Migrate { file } => call_migrate(files, alloc, telling, file, writer),
         Call::Explain { file, all, json } => {
-            call_explain(files, workers, alloc, hints, file, all, json, writer)
+            call_explain(files, workers, alloc, telling, file, all, json, writer)
         }
         Call::Draw {
             file,
@@ -405,7 +465,7 @@ pub(crate) fn run_call<
                 cycle,
                 numbers,
             };
-            call_draw(files, workers, alloc, hints, file, &options, writer)
+            call_draw(files, workers, alloc, telling, file, &options, writer)
         }
         Call::Rmap {
             file,
@@ -423,33 +483,27 @@ pub(crate) fn run_call<
                     address,
                     transaction,
                 };
-                call_rmap(files, alloc, hints, file, &request, writer)
+                call_rmap(files, alloc, telling, file, &request, writer)
             }
             None => CallEnd::from_ended(tell_refused(rt, NO_ACCESS)),
         },
         Call::Mend { file, pairs, json } => {
-            call_mend(files, workers, alloc, hints, file, pairs, json, writer)
+            call_mend(files, workers, alloc, telling, file, pairs, json, writer)
         }
         Call::Margin { file, json } => call_margin(
-            files, workers, alloc, hints, file, json, writer,
+            files, workers, alloc, telling, file, json, writer,
         ),
         Call::Witness { file, tries, seed } => {
-            call_witness(files, workers, alloc, hints, file, tries, seed, writer)
+            call_witness(files, workers, alloc, telling, file, tries, seed, writer)
         }
         Call::Audit {
             json,
             quiet,
             certificates,
-        } => CallEnd::from_ended(run_audit(
-            rt,
-            files,
-            workers,
-            paths,
-            json,
-            quiet,
-            certificates,
-            writer,
-        )),
+        } => {
+            let ended = run_audit(rt, files, workers, paths, json, quiet, certificates, writer);
+            audit_end(rt, alloc, telling, certificates, ended)
+        }
         Call::Init { name } => CallEnd::from_ended(write_sample(rt, name, writer)),
     }
 }

@@ -1,40 +1,121 @@
 //! What is told of what a call found, for standard error. It decides nothing.
+ghost use Rattle.std.specs.Prelude.{◌<◌, length};
+ghost use Rattle.sw_config.specs.Entries.{all_flows};
+
+use crate::call_end::hint_text;
+use crate::notes::MOST_NOTED;
 use std::alloc::{AllocError, Global};
-use sw_app::{CheckFinding, DecideFinding, RouteFinding};
-use sw_app_rmap::{RmapFault, RmapFinding};
+use sw_app::{CheckFinding, DecideFinding, FlowRoute, ReportFinding, RouteFinding};
+use sw_app_rmap::{Request, RmapFinding};
+use sw_calls::{Hints, Telling};
 use sw_changes::Mending;
 use sw_config::Network;
+use sw_engine::{CommandEnd, NetworkFile};
 use sw_explain::DrawFinding;
-use sw_faults::Hint;
-use sw_flow::{Place, RouteFault};
+use sw_flow::{Chan, Place, RouteFault, fault_at, first_fault, places};
 use sw_hints::{
     certificate_line_hint, cyclic_hint, load_hint, lock_up_hint, misrouted_hint,
-    refused_certificate_hint, refused_step_hint, schedule_line_hint, unknown_flow_hint,
+    refused_certificate_hint, refused_step_hint, rmap_fault_hint, schedule_line_hint,
+    unknown_flow_hint,
 };
 use sw_runs::{ReplayFinding, ReplayReport, RunFinding, WitnessFinding};
 use sw_schedule::ReplayEnd;
-use sw_search::Verdict;
+use sw_search::{Explanation, Tangle, Verdict, VerdictWorkers, explain};
 
-/// The text of a hint on what goes by this name.
-fn hint_text(
-    alloc: Global,
-    name: &str,
-    hint: Result<Hint, AllocError>,
-) -> Result<Option<String>, AllocError> {
-    Ok(Some(hint?.text(alloc, name)?))
-}
-
-/// The hint of a flow that has this fault at this place.
+/// The hint of a flow that has this fault at this place, of a file of this name and text.
 fn misrouted_text(
     alloc: Global,
-    name: &str,
+    file: (&str, &[u8]),
     network: &Network,
     flow: u16,
     place: &Place,
     fault: RouteFault,
 ) -> Result<Option<String>, AllocError> {
-    let hint = misrouted_hint(alloc, network, flow, place, fault);
+    let (name, text) = file;
+    let hint = misrouted_hint(alloc, network, text, flow, place, fault);
     hint_text(alloc, name, hint)
+}
+
+/// The same, if the flow has a fault.
+fn first_misrouted_text(
+    alloc: Global,
+    file: (&str, &[u8]),
+    network: &Network,
+    flow: u16,
+) -> Result<Option<String>, AllocError>
+    requires { flow < length (all_flows network.now) }
+{
+    let places = places(alloc, network, flow)?;
+    match first_fault(network, flow, &places) {
+        Some((place, fault)) => misrouted_text(alloc, file, network, flow, &place, fault),
+        None => Ok(None),
+    }
+}
+
+/// The hints of the flows behind this one that have a fault.
+fn later_misrouted_texts(
+    alloc: Global,
+    file: (&str, &[u8]),
+    network: &Network,
+    flow: u16,
+) -> Result<String, AllocError> {
+    let mut told = String::new(alloc);
+    for later in flow.saturating_add(1)..network.flows() {
+        if let Some(text) = first_misrouted_text(alloc, file, network, later)? {
+            told.push_str(text.as_str())?;
+        }
+    }
+    Ok(told)
+}
+
+/// The hint of a flow that has this fault at this place, and those of the flows behind it where all are wanted.
+fn misrouted_texts(
+    alloc: Global,
+    telling: Telling,
+    file: (&str, &[u8]),
+    network: &Network,
+    flow: u16,
+    place: &Place,
+    fault: RouteFault,
+) -> Result<Option<String>, AllocError> {
+    let first = misrouted_text(alloc, file, network, flow, place, fault)?;
+    if !telling.all_faults {
+        return Ok(first);
+    }
+    let mut told = first.unwrap_or(String::new(alloc));
+    told.push_str(later_misrouted_texts(alloc, file, network, flow)?.as_str())?;
+    Ok(Some(told))
+}
+
+/// The hints of the places of a route that have a fault: of the first one alone, or of all where all are wanted.
+fn route_texts(
+    alloc: Global,
+    telling: Telling,
+    file: (&str, &[u8]),
+    network: &Network,
+    route: &FlowRoute,
+) -> Result<Option<String>, AllocError> {
+    let mut told = String::new(alloc);
+    for place in &route.places {
+        if let Some(fault) = place_fault(network, route.flow, *place)
+            && let Some(text) = misrouted_text(alloc, file, network, route.flow, place, fault)?
+        {
+            told.push_str(text.as_str())?;
+            if !telling.all_faults {
+                break;
+            }
+        }
+    }
+    Ok(Some(told))
+}
+
+/// What is wrong with a place of the flow, if it is a flow of the network.
+fn place_fault(network: &Network, flow: u16, place: Place) -> Option<RouteFault> {
+    if flow < network.flows() {
+        fault_at(network, flow, place)
+    } else {
+        None
+    }
 }
 
 /// The hint of a name that no flow has.
@@ -50,35 +131,106 @@ fn unknown_flow_text(
 /// What to tell of a route of a flow of this name.
 pub(crate) fn route_hint(
     alloc: Global,
-    name: &str,
+    telling: Telling,
+    file: (&str, &[u8]),
     flow: &str,
     network: &Network,
     found: &RouteFinding,
 ) -> Result<Option<String>, AllocError> {
     match found {
-        RouteFinding::UnknownFlow => unknown_flow_text(alloc, name, network, flow),
-        RouteFinding::Found(route) => match &route.fault {
-            Some((place, fault)) => {
-                misrouted_text(alloc, name, network, route.flow, place, *fault)
-            }
-            None => Ok(None),
-        },
+        RouteFinding::UnknownFlow => unknown_flow_text(alloc, file.0, network, flow),
+        RouteFinding::Found(route) => route_texts(alloc, telling, file, network, route),
     }
 }
 
-/// What to tell of the verdict on a network.
+/// The first of the tangles whose cycle is no longer than the others'.
+pub(crate) fn shortest_of(tangles: &[Tangle]) -> Option<&Tangle> {
+    let mut shortest: Option<&Tangle> = None;
+    for tangle in tangles {
+        match shortest {
+            Some(known) if known.cycle.channels.len() <= tangle.cycle.channels.len() => {}
+            _ => shortest = Some(tangle),
+        }
+    }
+    shortest
+}
+
+/// The channels of the shortest cycle of a network on which there is this verdict, if it can lock up.
+fn cycle_of<C: VerdictWorkers>(
+    workers: &C,
+    alloc: Global,
+    network: &Network,
+    verdict: &Verdict,
+) -> Result<Option<Vec<Chan>>, AllocError> {
+    let Verdict::Cyclic(_) = verdict else {
+        return Ok(None);
+    };
+    let Explanation::Cyclic(tangles) = explain(workers, alloc, network)? else {
+        return Ok(None);
+    };
+    match shortest_of(&tangles) {
+        Some(tangle) => Ok(Some(Vec::from_slice(alloc, &tangle.cycle.channels)?)),
+        None => Ok(None),
+    }
+}
+
+/// The same for the hint of a call that ended so. None where its file's text is so long that finding it would take too long, or no hints are wanted.
+pub(crate) fn hinted_cycle<C: VerdictWorkers>(
+    workers: &C,
+    alloc: Global,
+    telling: Telling,
+    end: &CommandEnd<DecideFinding>,
+) -> Result<Option<Vec<Chan>>, AllocError> {
+    match (telling.hints, &end.file, &end.found) {
+        (Hints::Auto, NetworkFile::Network { text, network }, Some(Ok(found)))
+            if text.len() <= MOST_NOTED => { cycle_of(workers, alloc, network, &found.verdict) }
+        _ => Ok(None),
+    }
+}
+
+/// The hint of a network that can lock up, whose shortest cycle may be known. None where there was no memory to find it.
+fn cyclic_text(
+    alloc: Global,
+    network: &Network,
+    cycle: &Result<Option<Vec<Chan>>, AllocError>,
+) -> Result<Option<String>, AllocError> {
+    match cycle {
+        Ok(cycle) => hint_text(alloc, "help", cyclic_hint(alloc, network, cycle.as_deref())),
+        Err(_) => Ok(None),
+    }
+}
+
+/// What to tell of the verdict on a network, whose shortest cycle may be known.
 pub(crate) fn decide_hint(
     alloc: Global,
-    name: &str,
+    telling: Telling,
+    file: (&str, &[u8]),
     network: &Network,
     found: &DecideFinding,
+    cycle: &Result<Option<Vec<Chan>>, AllocError>,
 ) -> Result<Option<String>, AllocError> {
     match &found.verdict {
         Verdict::Misrouted(flow, place, fault) => {
-            misrouted_text(alloc, name, network, *flow, place, *fault)
+            misrouted_texts(alloc, telling, file, network, *flow, place, *fault)
         }
-        Verdict::Cyclic(_) => hint_text(alloc, "help", cyclic_hint(alloc)),
+        Verdict::Cyclic(_) => cyclic_text(alloc, network, cycle),
         Verdict::Free(_) => Ok(None),
+    }
+}
+
+/// What to tell of a report: of a misrouted network the flows behind the first that are, where all are wanted.
+pub(crate) fn report_hint(
+    alloc: Global,
+    telling: Telling,
+    file: (&str, &[u8]),
+    network: &Network,
+    found: &ReportFinding,
+) -> Result<Option<String>, AllocError> {
+    match &found.findings.verdict {
+        Verdict::Misrouted(flow, _, _) if telling.all_faults => {
+            Ok(Some(later_misrouted_texts(alloc, file, network, *flow)?))
+        }
+        _ => Ok(None),
     }
 }
 
@@ -96,32 +248,33 @@ pub(crate) fn draw_hint(
     }
 }
 
-/// What to tell of an RMAP command of the flow of this name.
+/// What to tell of an RMAP command that was asked for.
 pub(crate) fn rmap_hint(
     alloc: Global,
-    name: &str,
-    flow: &str,
+    file: (&str, &[u8]),
+    request: &Request<'_>,
     network: &Network,
     found: &RmapFinding,
 ) -> Result<Option<String>, AllocError> {
     match found {
-        RmapFinding::Fault(RmapFault::UnknownFlow) if network.flow_named(flow).is_none() => {
-            unknown_flow_text(alloc, name, network, flow)
+        RmapFinding::Fault(fault) => {
+            let hint = rmap_fault_hint(alloc, network, file.1, request, *fault);
+            hint_text(alloc, file.0, hint)
         }
-        _ => Ok(None),
+        RmapFinding::Entry(_) => Ok(None),
     }
 }
 
 /// What to tell of what frees a network.
 pub(crate) fn mend_hint(
     alloc: Global,
-    name: &str,
+    file: (&str, &[u8]),
     network: &Network,
     found: &Mending,
 ) -> Result<Option<String>, AllocError> {
     match found {
         Mending::Misrouted(flow, place, fault) => {
-            misrouted_text(alloc, name, network, *flow, place, *fault)
+            misrouted_text(alloc, file, network, *flow, place, *fault)
         }
         _ => Ok(None),
     }
@@ -130,13 +283,13 @@ pub(crate) fn mend_hint(
 /// What to tell of a search for a lock-up.
 pub(crate) fn witness_hint(
     alloc: Global,
-    name: &str,
+    file: (&str, &[u8]),
     network: &Network,
     found: &WitnessFinding,
 ) -> Result<Option<String>, AllocError> {
     match found {
         WitnessFinding::Misrouted(flow, place, fault) => {
-            misrouted_text(alloc, name, network, *flow, place, *fault)
+            misrouted_text(alloc, file, network, *flow, place, *fault)
         }
         _ => Ok(None),
     }
@@ -163,7 +316,7 @@ pub(crate) fn check_hint(
 }
 
 /// What to tell of a replay: of the step that was refused, or of a network that is locked up.
-fn report_hint(
+fn replayed_hint(
     alloc: Global,
     path: &str,
     network: &Network,
@@ -194,7 +347,7 @@ pub(crate) fn replay_hint(
             hint_text(alloc, path, schedule_line_hint(alloc, network, text, *line))
         }
         (ReplayFinding::Replayed(report), Some(text)) => {
-            report_hint(alloc, path, network, text, report)
+            replayed_hint(alloc, path, network, text, report)
         }
         _ => Ok(None),
     }

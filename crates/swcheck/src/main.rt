@@ -5,11 +5,13 @@
 mod asked;
 mod call_end;
 mod commands;
+mod folder_ends;
 mod found_hints;
 mod notes;
 mod noting_writer;
 mod objects;
 mod opened;
+mod other_cycles;
 mod program;
 mod recorded;
 mod rmap_words;

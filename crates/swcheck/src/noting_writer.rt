@@ -3,6 +3,9 @@ ghost use Rattle.std.specs.Prelude.{◌≡◌};
 
 use std::io::{self, ErrorKind, Write};
 
+/// What standard output goes by.
+pub(crate) const STANDARD_OUTPUT: &str = "standard output";
+
 /// What could not be read or written, and why.
 #[derive(Clone, Copy)]
 pub(crate) struct Failed<'a> {

@@ -5,7 +5,7 @@ ghost use Rattle.sw_args.specs.CommandLine.{HasWorkers};
 use crate::asked::{file_of, second_of};
 use crate::call_end::CallEnd;
 use crate::commands::run_call;
-use crate::noting_writer::{Failed, NotingWriter};
+use crate::noting_writer::{Failed, NotingWriter, STANDARD_OUTPUT};
 use crate::told::tell_text;
 use crate::unread::{read_failure, tell_failed};
 use std::io;
@@ -13,7 +13,7 @@ use std::rt::{Env, Files};
 use std::sync::Wait;
 use std::thread::Threads;
 use sw_args::{Asked, Call};
-use sw_calls::{Hints, given_call, given_texts, given_words, hints_of, no_hints, told_end};
+use sw_calls::{Hints, given_call, given_texts, given_words, no_telling, telling_of, told_end};
 use sw_engine::SystemFiles;
 use sw_search::VerdictWorkers;
 use sw_text::Ended;
@@ -53,13 +53,13 @@ fn run_asked<R: Files + Print + Eprint + AllocGlobal + Threads + Wait + Sync, C:
     requires { HasWorkers asked.now.call }
 {
     let call = &asked.call;
-    let Some(hints) = hints_of(asked.hints) else {
-        return no_hints(rt);
+    let Some(telling) = telling_of(asked) else {
+        return no_telling(rt);
     };
-    let mut writer = NotingWriter::new("standard output", io::writer(rt));
-    let end = run_call(rt, files, workers, hints, call, &asked.files, &mut writer);
+    let mut writer = NotingWriter::new(STANDARD_OUTPUT, io::writer(rt));
+    let end = run_call(rt, files, workers, telling, call, &asked.files, &mut writer);
     told_end(rt, end.ended);
-    tell_more(rt, call, hints, end, writer.unwritten)
+    tell_more(rt, call, telling.hints, end, writer.unwritten)
 }
 
 /// Tells which of the call's files can't be read, and why.

@@ -1,5 +1,5 @@
 //! Why a file can't be read or written, as the system tells it. It decides nothing.
-use crate::noting_writer::Failed;
+use crate::noting_writer::{Failed, STANDARD_OUTPUT};
 use crate::told::tell_text;
 use std::alloc::{AllocError, Global};
 use std::fs;
@@ -52,9 +52,32 @@ fn reason_of(kind: ErrorKind) -> &'static str {
     }
 }
 
+/// The reason why what goes by this name can't be read or written.
+fn reason_for(path: &str, kind: ErrorKind) -> &'static str {
+    match kind {
+        ErrorKind::NotFound if path == "-" => { "no such file; /dev/stdin is the standard input" }
+        ErrorKind::Other | ErrorKind::Uncategorized if path == STANDARD_OUTPUT => {
+            "can't be written; it may be closed"
+        }
+        kind => reason_of(kind),
+    }
+}
+
+/// Why no certificate can be kept in this folder, as far as that is known: it is not there, or is none.
+pub(crate) fn folder_fault<R: Files>(rt: &R, path: &str) -> Option<&'static str> {
+    match fs::metadata(rt, path) {
+        Ok(known) if known.is_dir() => None,
+        Ok(_) => Some("is no directory"),
+        Err(error) => match error.kind() {
+            ErrorKind::NotFound => Some("no such directory"),
+            kind => Some(reason_of(kind)),
+        },
+    }
+}
+
 /// The path, and the reason.
 fn unread_text(alloc: Global, path: &str, kind: ErrorKind) -> Result<String, AllocError> {
-    let reason = String::from_str(alloc, reason_of(kind))?;
+    let reason = String::from_str(alloc, reason_for(path, kind))?;
     Hint::new(alloc, reason).text(alloc, path)
 }
 

@@ -32,4 +32,4 @@ returns-clause-asked c =
     let values = c.unwrap.result.1.now in
     let found = c.get_strs.ensures ∙ raw_values-rows (found_of values) (codes "FILE") in
     let chosen = all_given c.get_strs.result _ _ refl found in
-    (c.unwrap.result.0.now, rows_of (found_of values), is, c.call_of.ensures, rw c.in-Ok.ensures.items (rw c.unwrap_or.ensures chosen), c.value_of.ensures)
+    (c.unwrap.result.0.now, rows_of (found_of values), is, c.call_of.ensures, rw c.in-Ok.ensures.items (rw c.unwrap_or.ensures chosen), c.value_of.ensures, c.value_of-2.ensures, c.is_set.ensures)

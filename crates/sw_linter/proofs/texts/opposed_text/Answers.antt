@@ -2,7 +2,7 @@ use Rattle.std.proofs.Common.{List, rules, string_bytes, subst, ◌++◌, ◌*�
 use Rattle.std.specs.Prelude.{IfOk, codes}
 use Rattle.sw_output.specs.ChannelTexts.{channel_text}
 use Rattle.sw_output.specs.FlowTexts.{flow_name}
-use Rattle.sw_linter.specs.LintTexts.{end_name}
+use Rattle.sw_linter.specs.EndNames.{end_name}
 use Rattle.sw_linter.proofs.Words.{opposed_is}
 use Rattle.sw_linter.proofs.texts.opposed_text.Goals as goal
 

@@ -1,0 +1,4 @@
+pub mod Circles
+pub mod Circlings
+pub mod Laws
+pub mod Rising
