@@ -13,7 +13,7 @@
  * `answer` and `*length` may overlap with nothing else. The text has no byte 0 at its end.
  *
  * A call returns the status of the command, and its answer's text is what the command writes on standard output. The calls whose names end in
- * `_json` answer with an object, as the command does with `--json` of files whose paths are `network` and `certificate` (docs/FORMATS.md, schema/).
+ * `_json` answer with an object, as the command does with `--json` of files whose paths are `network` and `certificate` (docs/OBJECTS.md, schema/).
  */
 #ifndef SWCHECK_H
 #define SWCHECK_H

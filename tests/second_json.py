@@ -1,4 +1,4 @@
-"""What swcheck has to answer with --json, made of what it answers without: a second, slow way to the same bytes, written from docs/FORMATS.md alone.
+"""What swcheck has to answer with --json, made of what it answers without: a second, slow way to the same bytes, written from docs/OBJECTS.md and docs/COMMANDS.md alone.
 
 The channels of lines come from tools/network_file.py, digests and texts of JSON from Python's own library.
 """

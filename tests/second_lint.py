@@ -1,4 +1,4 @@
-"""A second, slow program for what swcheck notes of a network file, written from docs/FORMATS.md alone."""
+"""A second, slow program for what swcheck notes of a network file, written from docs/FORMATS.md and docs/COMMANDS.md alone."""
 import tomllib
 
 from network_file import Network

@@ -1,4 +1,4 @@
-"""A second, slow program for the verdict on a network and its report, written from docs/FORMATS.md and docs/DEFINITIONS.md alone."""
+"""A second, slow program for the verdict on a network and its report, written from docs/FORMATS.md, docs/COMMANDS.md and docs/DEFINITIONS.md alone."""
 
 FAULTS = {1: "M1 AddressEnds", 2: "M2 NoRoute", 3: "M3 WrongNode", 4: "M4 WrongLeft"}
 

@@ -3,8 +3,8 @@
 
     tools/check_certificate.py NETWORK CERTIFICATE
 
-It and network_file.py beside it were written from docs/FORMATS.md alone, without a look at the program's sources. It prints what
-`swcheck check` prints and ends with its statuses: 0 accepted, 1 refused, 2 wrong words, 3 a fault of the network file, 6 a file that
+It and network_file.py beside it were written from docs/FORMATS.md and docs/COMMANDS.md alone, without a look at the program's sources.
+It prints what `swcheck check` prints and ends with its statuses: 0 accepted, 1 refused, 2 wrong words, 3 a fault of the network file, 6 a file that
 can't be read. It reads TOML 1.0, and the program TOML 1.1: a file that is TOML 1.1 only is `fault F1 Syntax` here.
 """
 import re

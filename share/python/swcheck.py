@@ -1,7 +1,7 @@
 """Describes a network in Python, writes its network files for swcheck, runs the program and reads its objects.
 
-SpaceWire is ECSS-E-ST-50-12C, RMAP is ECSS-E-ST-50-52C. docs/FORMATS.md has the keys of the network file, and the
-objects that the program writes.
+SpaceWire is ECSS-E-ST-50-12C, RMAP is ECSS-E-ST-50-52C. docs/FORMATS.md has the keys of the network file, and
+docs/OBJECTS.md the objects that the program writes.
 
     from swcheck import Network, Target, run
 
@@ -1159,8 +1159,8 @@ class Answer:
     """What the program answered to a call.
 
     command: the command.
-    status: the exit status ("Exit statuses" in docs/FORMATS.md).
-    object: the whole object that it wrote ("Answers as JSON" in docs/FORMATS.md).
+    status: the exit status ("Exit statuses" in docs/COMMANDS.md).
+    object: the whole object that it wrote (docs/OBJECTS.md).
     hints: what it wrote on standard error, which is for people.
     """
 
@@ -1193,7 +1193,7 @@ def run(command: str, *words: Path | int, program: Path = "swcheck", timeout: fl
     """Runs the program with `--json`, and reads its object. Each verdict is an answer, and so is a file with a fault.
 
     command: one of COMMANDS.
-    words: the command's words and options, as docs/FORMATS.md has them.
+    words: the command's words and options, as docs/COMMANDS.md has them.
     program: its path, or its name where it is on the PATH.
     timeout: how many seconds it may take; as long as it takes where it is left out.
     Raises SwcheckError where the program can't be run, refuses its words, writes no object (as where a file can't be
