@@ -309,14 +309,16 @@ class SecondAnswers:
             path = next((it for it in files if found[it]["line"] is not None and it in hint), None) or self.faulty(lines[0], files)
             return {"fault": found[path], "kind": "fault", "path": path}
         if command == "route":
-            found = {"flow": lines[0].split()[1], "places": [place(it) for it in lines[1:-1]]}
+            flow = lines[0].split()[1]
+            found = {"flow": flow, "lint": self.circling(files[0], flow), "places": [place(it) for it in lines[1:-1]]}
             is_routed = lines[-1] == "routed"
             return {**found, "fault": None if is_routed else route_fault(lines[-1]), "kind": "routed" if is_routed else "misrouted"}
         if command == "check":
             return {"kind": "accepted"} if lines[0] == "accepted" else refusal(lines[0])
         if command == "report":
             counts = {it.split()[0]: int(it.split()[1]) for it in lines[:-1]}
-            return {**counts, "kind": "report", "verdict": self.verdict(files[0])[1]}
+            lint = self.lint(self.bytes_of(files[0]))
+            return {**counts, "kind": "report", "lint": lint, "verdict": self.verdict(files[0])[1]}
         if command == "replay":
             return replayed(lines)
         if command == "run":
@@ -326,12 +328,17 @@ class SecondAnswers:
         if lines[0] == "not free":
             return self.verdict(files[0])[1]
         if command == "explain":
-            return explained(lines, self.channels(files[0]))
+            found = explained(lines, self.channels(files[0]))
+            return found if found["kind"] == "free" else {**found, "lint": self.circling(files[0])}
         if command == "margin":
             return margins(lines, self.channels(files[0]))
         if lines[0] == "free already":
             return {"kind": "free"}
         return {"kind": "mends", "mends": [mend(it) for it in lines if it.startswith("free with")]}
+
+    def circling(self, path, flow=""):
+        """The notes on flows, or on this flow, whose packets can come back to a place or of which none arrives."""
+        return [it for it in self.lint(self.bytes_of(path)) if re.match(rf"packets of {re.escape(flow) or '.*'} (may )?never reach ", it)]
 
     def faulty(self, line, files):
         """The file that has the fault of a line without a place."""

@@ -18,10 +18,9 @@ use Rattle.sw_engine.specs.Engines.{AnswersByOne, AnswersInForm, AnswersToOne, A
 use Rattle.serde_json.specs.Data.{Data}
 use Rattle.sw_config.specs.Entries.{Declaration}
 use Rattle.sw_json.proofs.ObjectEnds.{fault_of_two_told, fault_told, finding_of_two_told, finding_told, long_of_two_told, long_told, network_file_as_object, two_files_as_object}
-use Rattle.sw_json.specs.ObjectAnswers.{by_value}
 use Rattle.sw_json_verdicts.specs.Release.{Release}
 use Rattle.sw_json_verdicts.specs.CheckResults.{IsCheckJson, check_results}
-use Rattle.sw_json_verdicts.specs.ReportResults.{IsReportJson, found_value}
+use Rattle.sw_json_verdicts.specs.ReportResults.{IsReportJson, report_results}
 use Rattle.sw_json_verdicts.specs.Answering.{Results, memory_text, read_value}
 use Rattle.sw_engine.specs.Tellings.{TellsOr}
 use Rattle.sw_c.specs.Given.{IsEnded, IsGiven, IsGivenSuch, IsObjectEnded, IsObjectGiven}
@@ -100,14 +99,14 @@ abbrev alone : List ℕ → Option (List ℕ) → List Data
 alone path given = read_value path given ∷ []
 
 -- the answers of `report` in an object, by what it finds
-abbrev report_results : Declaration → ReportFinding → Results
-report_results = by_value (λ d found. found_value d found.findings) (λ _. 0)
+abbrev report_told : Declaration → ReportFinding → Results
+report_told d found = report_results d found.findings
 
 abbrev report_in_object : List ℕ → Release → AnswersToOne
 report_in_object path release =
-    AnswersInForm IsReportFinding (finding_told IsReportFinding report_results (codes "report") path (alone path) release)
-    (fault_told IsReportFinding report_results (codes "report") path (alone path) release)
-    (long_told IsReportFinding report_results (codes "report") path (alone path) release)
+    AnswersInForm IsReportFinding (finding_told IsReportFinding report_told (codes "report") path (alone path) release)
+    (fault_told IsReportFinding report_told (codes "report") path (alone path) release)
+    (long_told IsReportFinding report_told (codes "report") path (alone path) release)
 
 -- those of `check`
 abbrev all_check_results : List ℕ → Option (List ℕ) → Declaration → CheckFinding → Results
@@ -187,7 +186,7 @@ module _ (old text told room new : List ℕ) (count status : ℕ) (none : old �
       → IsObjectEnded ended told room new count status → IsObjectGiven (IsReportJson path release (limited bytes)) room new count status
   report_object_given path release bytes rest ended ends is =
       object_of_one (IsReportJson path release) bytes rest ended
-      (network_file_as_object IsReportFinding report_results (codes "report") path (alone path) release
+      (network_file_as_object IsReportFinding report_told (codes "report") path (alone path) release
       (Some bytes) (Some rest) (Some old) (Some text) ended ends) is
 
   -- ---- of `check`

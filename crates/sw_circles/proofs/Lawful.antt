@@ -357,7 +357,7 @@ told_in_words d flow f told here is =
           is.told_is ∙ ap (λ them. told_of flow them (arrives d is.entry is.places)) no_circles ∙ ap (told_of flow []) arrived,
     )
 
-one_told : (d : Declaration) (flow : ℕ) (a b : Option CirclingView) → IsCirclingOf d flow a → IsCirclingOf d flow b → a ≡ b
+pub one_told : (d : Declaration) (flow : ℕ) (a b : Option CirclingView) → IsCirclingOf d flow a → IsCirclingOf d flow b → a ≡ b
 one_told d flow a b h k =
     let entry : h.entry ≡ k.entry = same_Some h.entry k.entry (sym h.numbered ∙ k.numbered) in
     let list : IsPlaceList d h.entry k.places = subst (λ f. IsPlaceList d f k.places) (sym entry) k.list in

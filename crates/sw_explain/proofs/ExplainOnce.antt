@@ -1,5 +1,5 @@
 -- `explain` has one status, that of the text answer; and where a target makes a step no flow does.
-use Rattle.std.proofs.Common.{◌≡◌, ℕ, ◌+◌, ◌<◌, Bool, List, [], ◌∷◌, All, arith, codes, length, refl, subst, sym}
+use Rattle.std.proofs.Common.{◌≡◌, ◌∙◌, ℕ, ◌+◌, ◌<◌, Bool, List, [], ◌∷◌, All, ap, arith, codes, length, map, refl, subst, sym}
 use Rattle.std.specs.List.{AllZip}
 use Rattle.std.specs.Prelude.{Result, Some}
 use Rattle.std.proofs.lemmas.List.Elements.{All-cons, All-nil}
@@ -25,17 +25,19 @@ use Rattle.sw_search.specs.declared.verdict.Verdict.TheVariants as verdict
 use Rattle.sw_text.specs.declared.fault.TextFault.{TextFault}
 use Rattle.sw_json.proofs.OneResult.{AreOne, one_answer}
 use Rattle.sw_explain.proofs.TanglesOnce.{one_tangles_value}
-use Rattle.sw_json.proofs.OneObject.{one_status, status_of_lines, value_once}
-use Rattle.sw_json.specs.Answering.{OfNetwork, read_value}
-use Rattle.sw_json.specs.ObjectAnswers.{FindingAsResult, by_value}
-use Rattle.sw_explain.specs.ExplainValues.{explain_value}
+use Rattle.sw_json.proofs.OneObject.{one_status, status_of_lines}
+use Rattle.sw_json.specs.Answering.{OfNetwork, Results, read_value}
+use Rattle.sw_json.specs.ObjectAnswers.{FindingAsResult}
+use Rattle.sw_explain.specs.ExplainValues.{explain_has_status, explain_results}
+use Rattle.sw_circles.proofs.Lawful.{circlings_are_determined}
+use Rattle.sw_linter.specs.CirclingTexts.{AreCirclingTexts, circling_text}
 use Rattle.sw_explain.specs.ExplainLaws.{ExplainHasOneAnswer, ExplainHasOneStatus, ExplainHasStatusOfText, HasNoFlowsAtTargets, TargetsHaveNoFlows}
 use Rattle.sw_topo.proofs.Lists.{none_listed}
 use Rattle.sw_search.proofs.Determined.{not_routed}
 
--- the value and the status of what is found
-abbrev value_of : Declaration → ExplainFinding → Data
-value_of d found = explain_value d found.explanation
+-- the results and the status of what is found
+abbrev results_of : Declaration → ExplainFinding → Results
+results_of d found = explain_results d found.explanation
 
 abbrev status_of : ExplainFinding → ℕ
 status_of found = explain_status found.explanation
@@ -60,32 +62,39 @@ module _ (of_verdict : ExplanationsAreOfTheVerdict) (where_cycles : TanglesAreWh
 
   pub explain_has_one_status : ExplainHasOneStatus
   explain_has_one_status all path release given =
-      one_status (IsExplainFinding all) (by_value value_of status_of) (codes "explain") path (λ read. read_value path read ∷ []) release status_of
-      (λ d x value status is. is.1) (statuses all all) given
+      one_status (IsExplainFinding all) results_of (codes "explain") path (λ read. read_value path read ∷ []) release status_of
+      (λ d x value status is. explain_has_status d x.explanation value status is) (statuses all all) given
 
   pub explain_has_status_of_text : ExplainHasStatusOfText
   explain_has_status_of_text asked all path release given =
-      status_of_lines (IsExplainFinding asked) (by_value value_of status_of) (codes "explain") path (λ read. read_value path read ∷ []) release status_of
-      (λ d x value status is. is.1) (IsExplainFinding all) (λ d found. explain_text d found.all found.explanation) status_of (statuses asked all) given
+      status_of_lines (IsExplainFinding asked) results_of (codes "explain") path (λ read. read_value path read ∷ []) release status_of
+      (λ d x value status is. explain_has_status d x.explanation value status is) (IsExplainFinding all) (λ d found. explain_text d found.all found.explanation) status_of (statuses asked all) given
 
 -- ---- one answer where each flow is well routed
 
-found_once : ExplanationsAreOfTheVerdict → TanglesAreWhereCyclesAre → (d : Declaration) → AllWellRouted d → (e f : Explanation) → IsExplanation d e → IsExplanation d f
-    → explain_value d e ≡ explain_value d f
-found_once of_verdict where_cycles d all (Misrouted i p fault way) f h k = absurd (not_routed d i p fault h.misrouted all)
-found_once of_verdict where_cycles d all (Cyclic tangles) (Misrouted j q other round) h k = absurd (not_routed d j q other k.misrouted all)
-found_once of_verdict where_cycles d all (Cyclic tangles) (Cyclic others) h k = one_tangles_value d tangles.items others.items h.are k.are
-found_once of_verdict where_cycles d all (Cyclic tangles) Free h k = absurd (h.some ((where_cycles d tangles.items h.are).1 k.no_cycle))
-found_once of_verdict where_cycles d all Free (Misrouted j q other round) h k = absurd (not_routed d j q other k.misrouted all)
-found_once of_verdict where_cycles d all Free (Cyclic others) h k = absurd (k.some ((where_cycles d others.items k.are).1 h.no_cycle))
-found_once of_verdict where_cycles d all Free Free h k = refl
+same_notes : (d : Declaration) (lint told : List (List ℕ)) → AreCirclingTexts d lint → AreCirclingTexts d told → lint ≡ told
+same_notes d lint told (c, are, texts) (e, also, words) = texts ∙ ap (map (circling_text d)) (circlings_are_determined d c e are also) ∙ sym words
+
+found_once : TanglesAreWhereCyclesAre → (d : Declaration) → AllWellRouted d → (e f : Explanation) → IsExplanation d e → IsExplanation d f
+    → (value said : Data) (status number : ℕ) → explain_results d e value status → explain_results d f said number → value ≡ said
+found_once where_cycles d all (Misrouted i p fault way) f h k value said status number is tells = absurd (not_routed d i p fault h.misrouted all)
+found_once where_cycles d all (Cyclic tangles) (Misrouted j q other round) h k value said status number is tells = absurd (not_routed d j q other k.misrouted all)
+found_once where_cycles d all (Cyclic tangles) (Cyclic others) h k value said status number (lint, noted, is) (told, also, tells) =
+    is.0 ∙ one_tangles_value d lint told tangles.items others.items (same_notes d lint told noted also) h.are k.are ∙ sym tells.0
+found_once where_cycles d all (Cyclic tangles) Free h k value said status number is tells = absurd (h.some ((where_cycles d tangles.items h.are).1 k.no_cycle))
+found_once where_cycles d all Free (Misrouted j q other round) h k value said status number is tells = absurd (not_routed d j q other k.misrouted all)
+found_once where_cycles d all Free (Cyclic others) h k value said status number is tells = absurd (k.some ((where_cycles d others.items k.are).1 h.no_cycle))
+found_once where_cycles d all Free Free h k value said status number is tells = is.0 ∙ sym tells.0
 
 pub explain_has_one_answer : ExplanationsAreOfTheVerdict → TanglesAreWhereCyclesAre → ExplainHasOneAnswer
 explain_has_one_answer of_verdict where_cycles all path release bytes d is routed =
     one_answer (codes "explain") (read_value path (Some bytes) ∷ []) release _
-    (subst (λ (r : Result Declaration TextFault). AreOne (OfNetwork path bytes (FindingAsResult (IsExplainFinding all) (by_value value_of status_of)) r)) (sym is)
-    (value_once (IsExplainFinding all) value_of status_of (statuses of_verdict where_cycles all all) d
-    (λ x y h k. found_once of_verdict where_cycles d routed x.explanation y.explanation h.1 k.1)))
+    (subst (λ (r : Result Declaration TextFault). AreOne (OfNetwork path bytes (FindingAsResult (IsExplainFinding all) results_of) r)) (sym is)
+    (λ value said status number (x, h, tells) (y, k, says). (
+      explain_has_status d x.explanation value status tells ∙ statuses of_verdict where_cycles all all d x y h k
+          ∙ sym (explain_has_status d y.explanation said number says),
+      λ good. found_once where_cycles d routed x.explanation y.explanation h.1 k.1 value said status number tells says,
+    )))
 
 -- ---- steps that targets make
 

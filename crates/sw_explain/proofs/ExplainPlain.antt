@@ -5,12 +5,13 @@ use Rattle.sw_explain.specs.ExplainTexts.{slots_at}
 use Rattle.sw_config.specs.Entries.{Declaration}
 use Rattle.sw_config.specs.Limits.{limit_at}
 use Rattle.sw_cycle.specs.Cycles.{CauseEntry, ByFlow, ByTarget}
-use Rattle.sw_search.specs.declared.explanation.Explanation.TheVariants.{Misrouted, Cyclic, Free}
+use Rattle.sw_flow.specs.declared.fault.RouteFault.{RouteFault}
+use Rattle.sw_flow.specs.declared.place.Place.{Place}
 use Rattle.sw_search.specs.declared.tangle.Tangle.{Tangle}
-use Rattle.sw_json.specs.Plain.{IsPlain, KindsArePlain, PlacesArePlain}
+use Rattle.sw_json.specs.Plain.{IsPlain, PlacesArePlain}
 use Rattle.sw_json.specs.PlaceValues.{place_value}
-use Rattle.sw_json.proofs.Plain.{count_or_null_plain, count_plain, list_plain, made_plain, no_more, null_plain, object_plain, plain_at_more, text_plain, with_member}
-use Rattle.sw_explain.specs.ExplainValues.{limit_value, slots_value, step_value, step_values, tangle_value, target_value}
+use Rattle.sw_json.proofs.Plain.{count_or_null_plain, count_plain, list_plain, made_plain, no_more, null_plain, object_plain, plain_at_more, text_plain, texts_plain, with_member}
+use Rattle.sw_explain.specs.ExplainValues.{limit_value, slots_value, step_value, step_values, tangle_value, tangles_value, target_value, wrong_value}
 use Rattle.sw_explain.specs.ExplainLaws.{ExplanationsArePlain}
 use Rattle.sw_explain.proofs.NamesPlain.{names_plain}
 
@@ -43,10 +44,15 @@ tangle_plain d t =
     object_plain 3 (with_member count_plain (with_member (list_plain 2 (step_values d t.cycle.channels t.cycle.causes (map (λ flows. flows.items) t.flows.items))
     (steps_plain d t.cycle.channels t.cycle.causes (map (λ flows. flows.items) t.flows.items))) no_more))
 
-pub explain_plain : PlacesArePlain → KindsArePlain → ExplanationsArePlain
-explain_plain places kinds d (Misrouted flow place fault way) =
+wrong_plain : PlacesArePlain → (d : Declaration) (lint : List (List ℕ)) (flow : ℕ) (place : Place) (fault : RouteFault) (way : List Place)
+    → IsPlain 6 (wrong_value d lint flow place fault way)
+wrong_plain places d lint flow place fault way =
     object_plain 5 (with_member (plain_at_more 1 5 _ (omega arith) (places.faults place fault)) (with_member text_plain (with_member text_plain
-    (with_member (made_plain 4 (place_value d) (λ p. plain_at_more 1 4 _ (omega arith) (places.places d p)) way.items) no_more))))
-explain_plain places kinds d (Cyclic tangles) =
-    object_plain 5 (with_member text_plain (with_member (made_plain 4 (tangle_value d) (tangle_plain d) tangles.items) no_more))
-explain_plain places kinds d Free = plain_at_more 1 6 _ (omega arith) (kinds _)
+    (with_member (texts_plain 4 lint) (with_member (made_plain 4 (place_value d) (λ p. plain_at_more 1 4 _ (omega arith) (places.places d p)) way) no_more)))))
+
+tangles_plain : (d : Declaration) (lint : List (List ℕ)) (tangles : List Tangle) → IsPlain 6 (tangles_value d lint tangles)
+tangles_plain d lint tangles =
+    object_plain 5 (with_member text_plain (with_member (texts_plain 4 lint) (with_member (made_plain 4 (tangle_value d) (tangle_plain d) tangles) no_more)))
+
+pub explain_plain : PlacesArePlain → ExplanationsArePlain
+explain_plain places = record { wrong = wrong_plain places; tangled = tangles_plain }

@@ -18,7 +18,7 @@ use Rattle.sw_graph.specs.Laws.{IsChain, IsCycle}
 use Rattle.sw_graph.specs.Levels.{Chain}
 use Rattle.sw_graph.specs.Reached.{IsListing}
 use Rattle.sw_graph.specs.Rows.{row}
-use Rattle.sw_json.specs.Simple.{count_value}
+use Rattle.sw_json.specs.Simple.{count_value, texts_value}
 use Rattle.sw_graph.specs.Components.{AreComponents, AreTogether, IsComponent, IsShortest, LeadsTo}
 use Rattle.sw_graph.specs.Shortest.{IsNext}
 use Rattle.sw_graph.specs.declared.component.Component.{Component}
@@ -103,8 +103,11 @@ module _ (d : Declaration) where
       let rest : map seen ps ≡ map seen qs = cc in
       λ i. one_tangle p q t u first h.0 k.0 i ∷ one_list ps qs ts us rest h.1 k.1 i
 
-  pub one_tangles_value : (ts us : List Tangle) → AreTangles d ts → AreTangles d us → tangles_value d ts ≡ tangles_value d us
-  one_tangles_value ts us h k =
+  pub one_tangles_value : (lint told : List (List ℕ)) (ts us : List Tangle) → lint ≡ told → AreTangles d ts → AreTangles d us
+      → tangles_value d lint ts ≡ tangles_value d told us
+  one_tangles_value lint told ts us same h k =
       let components = one_list_of_components (depends d) h.components k.components h.are k.are in
-      ap (λ values. object (member (codes "kind") (string (codes "cyclic")) (member (codes "tangles") (array (items_of values)) no_members)))
-      (one_list h.components k.components ts us components h.told k.told)
+      let values = one_list h.components k.components ts us components h.told k.told in
+      (λ i.
+      object (member (codes "kind") (string (codes "cyclic")) (member (codes "lint") (texts_value (same i))
+      (member (codes "tangles") (array (items_of (values i))) no_members))))

@@ -12,8 +12,9 @@ use Rattle.sw_search.specs.Verdicts.{AllWellRouted}
 use Rattle.sw_json.specs.declared.files.Release.{Release}
 use Rattle.sw_explain.specs.ExplainJson.{IsExplainJson}
 use Rattle.sw_json.specs.Laws.{AreOneButForFaults, HaveOneStatus}
-use Rattle.sw_explain.specs.ExplainValues.{explain_value}
-use Rattle.sw_search.specs.declared.explanation.Explanation.{Explanation}
+use Rattle.sw_explain.specs.ExplainValues.{tangles_value, wrong_value}
+use Rattle.sw_flow.specs.declared.fault.RouteFault.{RouteFault}
+use Rattle.sw_flow.specs.declared.place.Place.{Place}
 use Rattle.sw_json.specs.Plain.{IsPlain}
 
 -- of a file whose network has no flow that is not well routed, `explain` has one answer; of a flow that is not, any way may be told
@@ -42,6 +43,9 @@ HasNoFlowsAtTargets t = (i node : ℕ) → slice_get t.cycle.causes i ≡ Some (
 abbrev pub TargetsHaveNoFlows : Type 0
 TargetsHaveNoFlows = (d : Declaration) (tangles : List Tangle) → AreTangles d tangles → All HasNoFlowsAtTargets tangles
 
--- the value of what is told has a text that reads back: an object with a list of tangles, in each a list of steps, in each a list of names
-abbrev pub ExplanationsArePlain : Type 0
-ExplanationsArePlain = (d : Declaration) (e : Explanation) → IsPlain 6 (explain_value d e)
+-- The values of what is told have a text that reads back: an object with a list of places; or with a list of tangles, in each a list of steps,
+-- in each a list of names.
+pub record ExplanationsArePlain : Type 0 where
+  pub wrong : (d : Declaration) (lint : List (List ℕ)) (flow : ℕ) (place : Place) (fault : RouteFault) (way : List Place)
+      → IsPlain 6 (wrong_value d lint flow place fault way)
+  pub tangled : (d : Declaration) (lint : List (List ℕ)) (tangles : List Tangle) → IsPlain 6 (tangles_value d lint tangles)

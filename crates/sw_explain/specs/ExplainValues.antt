@@ -1,8 +1,8 @@
 -- The objects that stand for why a network can lock up (this project's choice).
-use Rattle.std.specs.Prelude.{ℕ, List, [], ◌∷◌, codes, map}
+use Rattle.std.specs.Prelude.{◌≡◌, ℕ, List, [], ◌∷◌, codes, map}
 use Rattle.serde_json.specs.Data.{Data, array, null, object, string, member, no_members}
 use Rattle.serde_json.specs.View.{items_of}
-use Rattle.sw_explain.specs.ExplainTexts.{slots_at}
+use Rattle.sw_explain.specs.ExplainTexts.{explain_status, slots_at}
 use Rattle.sw_config.specs.Entries.{Declaration}
 use Rattle.sw_config.specs.Limits.{limit_at}
 use Rattle.sw_cycle.specs.Cycles.{CauseEntry, ByFlow, ByTarget}
@@ -11,23 +11,26 @@ use Rattle.sw_search.specs.declared.explanation.Explanation.TheVariants.{Misrout
 use Rattle.sw_search.specs.declared.tangle.Tangle.{Tangle}
 use Rattle.sw_flow.specs.declared.fault.RouteFault.{RouteFault}
 use Rattle.sw_flow.specs.declared.place.Place.{Place}
+use Rattle.sw_json.specs.Answering.{IsCommandOutcome, Results}
 use Rattle.sw_json.specs.FileValues.{kind_value}
 use Rattle.sw_json.specs.PlaceValues.{finish_text, flow_name_value, misrouted_fault_value, place_value}
-use Rattle.sw_json.specs.Simple.{count_or_null, count_value}
+use Rattle.sw_json.specs.Simple.{count_or_null, count_value, texts_value}
+use Rattle.sw_linter.specs.CirclingTexts.{AreCirclingTexts}
 use Rattle.sw_output.specs.ChannelTexts.{node_name, start_text}
 
 -- ---- a flow that is not well routed
 
--- what is wrong at the last of the places that the flow's packets go over, the flow, and the values of these places
-abbrev pub misrouted_value : Declaration → ℕ → Place → RouteFault → List Data → Data
-misrouted_value d flow place fault way =
+-- what is wrong at the last of the places that the flow's packets go over, the flow, what there is to note, and the values of these places
+abbrev pub misrouted_value : Declaration → List (List ℕ) → ℕ → Place → RouteFault → List Data → Data
+misrouted_value d lint flow place fault way =
     object (member (codes "fault") (misrouted_fault_value place fault)
     (member (codes "flow") (flow_name_value d flow)
     (member (codes "kind") (string (codes "misrouted"))
-    (member (codes "way") (array (items_of way)) no_members))))
+    (member (codes "lint") (texts_value lint)
+    (member (codes "way") (array (items_of way)) no_members)))))
 
-abbrev pub wrong_value : Declaration → ℕ → Place → RouteFault → List Place → Data
-wrong_value d flow place fault way = misrouted_value d flow place fault (map (place_value d) way)
+abbrev pub wrong_value : Declaration → List (List ℕ) → ℕ → Place → RouteFault → List Place → Data
+wrong_value d lint flow place fault way = misrouted_value d lint flow place fault (map (place_value d) way)
 
 -- ---- channels that can wait for one another in circles
 
@@ -70,15 +73,26 @@ tangle_value d t =
     object (member (codes "channels") (count_value t.channels)
     (member (codes "cycle") (array (items_of (step_values d t.cycle.channels t.cycle.causes (map (λ flows. flows.items) t.flows.items)))) no_members))
 
-abbrev pub tangles_value : Declaration → List Tangle → Data
-tangles_value d tangles =
+abbrev pub tangles_value : Declaration → List (List ℕ) → List Tangle → Data
+tangles_value d lint tangles =
     object (member (codes "kind") (string (codes "cyclic"))
-    (member (codes "tangles") (array (items_of (map (tangle_value d) tangles))) no_members))
+    (member (codes "lint") (texts_value lint)
+    (member (codes "tangles") (array (items_of (map (tangle_value d) tangles))) no_members)))
 
 -- ---- all together
 
--- what is told of a network
-abbrev pub explain_value : Declaration → Explanation → Data
-explain_value d (Misrouted flow place fault way) = wrong_value d flow place fault way.items
-explain_value d (Cyclic tangles) = tangles_value d tangles.items
-explain_value d Free = kind_value (codes "free")
+-- with a note on each flow whose packets can come back to a place, or of which none arrives
+abbrev pub WithNotes : Declaration → (List (List ℕ) → Data) → ℕ → Results
+WithNotes d value_of number value status = (lint : List (List ℕ)) × AreCirclingTexts d lint × IsCommandOutcome (value_of lint) number value status
+
+-- what is told of a network; where it never locks up, there is no such flow
+abbrev pub explain_results : Declaration → Explanation → Results
+explain_results d (Misrouted flow place fault way) = WithNotes d (λ lint. wrong_value d lint flow place fault way.items) 1
+explain_results d (Cyclic tangles) = WithNotes d (λ lint. tangles_value d lint tangles.items) 1
+explain_results d Free = IsCommandOutcome (kind_value (codes "free")) 0
+
+-- with the explanation's status
+pub explain_has_status : (d : Declaration) (e : Explanation) (value : Data) (status : ℕ) → explain_results d e value status → status ≡ explain_status e
+explain_has_status d (Misrouted flow place fault way) value status is = is.2.1
+explain_has_status d (Cyclic tangles) value status is = is.2.1
+explain_has_status d Free value status is = is.1

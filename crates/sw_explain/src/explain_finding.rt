@@ -3,15 +3,13 @@ ghost use Rattle.std.specs.Prelude.{◌≡◌, IfOk, codes, None};
 ghost use Rattle.sw_engine.specs.Engines.{AnswersInForm, EndsByOne};
 ghost use Rattle.sw_engine.specs.Files.{IsFileRead, network_of};
 ghost use Rattle.sw_engine.specs.Tellings.{AnswersToFile, HoldsOfFound, IsFileTold};
-ghost use Rattle.sw_json.specs.Answering.{IsCommandOutcome};
 ghost use Rattle.sw_search.specs.Explanations.{IsExplanation};
 ghost use Rattle.sw_explain.specs.ExplainAnswers.{IsExplainFinding};
 ghost use Rattle.sw_explain.specs.ExplainTexts.{explain_status, explain_text};
-ghost use Rattle.sw_explain.specs.ExplainValues.{explain_value};
+ghost use Rattle.sw_explain.specs.ExplainValues.{explain_has_status, explain_results};
 
 use crate::explain_texts::{explain_status, explain_text};
-use crate::explain_value_laws::explanations_are_plain;
-use crate::explain_values::explain_value;
+use crate::explain_values::explain_outcome;
 use std::alloc::{AllocError, Global};
 use std::io::{Read, Write};
 use sw_config::Network;
@@ -54,7 +52,7 @@ pub struct ExplainValues;
 impl Values<ExplainFinding> for ExplainValues {
     ghost command = { codes "explain" };
 
-    ghost results_of = { λ _ _ _ d f. IsCommandOutcome (explain_value d f.explanation) (explain_status f.explanation) };
+    ghost results_of = { λ _ _ _ d f. explain_results d f.explanation };
 
     fn command(&self) -> &'static str {
         "explain"
@@ -68,13 +66,10 @@ impl Values<ExplainFinding> for ExplainValues {
         network: &Network,
         found: &ExplainFinding,
     ) -> Result<CommandOutcome, AllocError> {
-        explanations_are_plain();
-        let result = explain_value(alloc, network, &found.explanation)?;
-        let status = explain_status(&found.explanation);
-        Ok(CommandOutcome { result, status })
+        explain_outcome(alloc, network, &found.explanation)
     }
 
-    ghost result_has_status = { λ _ _ _ _ _ _ _ is. is.1 };
+    ghost result_has_status = { λ _ _ _ d f. explain_has_status d f.explanation };
 }
 
 /// What is found of a network.

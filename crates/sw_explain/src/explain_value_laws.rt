@@ -1,15 +1,14 @@
 //! Laws of `explain`'s answers. The functions do nothing: each is the proof of what its clause says.
 ghost use Rattle.sw_explain.specs.ExplainLaws.{ExplainHasOneAnswer, ExplainHasOneStatus, ExplainHasStatusOfText, ExplanationsArePlain, TargetsHaveNoFlows};
 
-use sw_json::laws::{kinds_are_plain, places_are_plain};
+use sw_json::laws::places_are_plain;
 use sw_search::explanation_laws::{explanations_are_of_the_verdict, tangles_are_where_cycles_are};
 
-/// The value of what is told of a network has a text that reads back.
+/// The values of what is told of a network have a text that reads back.
 pub fn explanations_are_plain()
     ensures { ExplanationsArePlain }
 {
     places_are_plain();
-    kinds_are_plain();
 }
 
 /// Of a file whose network has no flow that is not well routed, `explain` has one answer: its status and its text. Of a flow that is not,

@@ -1,46 +1,55 @@
 //! Why a network can lock up, as values.
-ghost use Rattle.std.specs.Prelude.{◌≡◌, ◌<◌, All, IfOk, length, map};
+ghost use Rattle.std.specs.Prelude.{◌≡◌, ◌<◌, All, IfOk, codes, length, map, string_bytes};
 ghost use Rattle.serde_json.specs.View.{view};
 ghost use Rattle.sw_explain.specs.ExplainTexts.{IsOfChannels};
 ghost use Rattle.sw_config.specs.Entries.{wiring_of};
 ghost use Rattle.sw_cycle.specs.Cycles.{cause_of};
+ghost use Rattle.sw_json.specs.Answering.{IsCommandOutcome};
+ghost use Rattle.sw_json.specs.FileValues.{kind_value};
 ghost use Rattle.sw_json.specs.Objects.{member_value};
 ghost use Rattle.sw_search.specs.Explanations.{GoesWrong, IsExplanation, IsTangled};
-ghost use Rattle.sw_explain.specs.ExplainValues.{explain_value, limit_value, slots_value, step_value, step_values, tangle_value, tangles_value, target_value, wrong_value};
+ghost use Rattle.sw_explain.specs.ExplainValues.{WithNotes, explain_results, limit_value, slots_value, step_value, step_values, tangle_value, tangles_value, target_value, wrong_value};
 
+use crate::explain_value_laws::explanations_are_plain;
 use crate::owed_texts::slots_at;
 use serde_json::Value;
 use std::alloc::{AllocError, Global};
 use sw_config::Network;
 use sw_cycle::Cause;
 use sw_flow::{Place, RouteFault};
+use sw_json::laws::kinds_are_plain;
 use sw_json::{
-    Member, add_value, finish_text, flow_name_values, kind_value, misrouted_fault_value, object_of,
-    place_values, start_text,
+    CommandOutcome, Member, add_value, finish_text, flow_name_values, kind_value,
+    misrouted_fault_value, object_of, place_values, start_text, text_values,
 };
+use sw_linter::circling_texts;
 use sw_output::{flow_name, node_name};
 use sw_search::{Explanation, Tangle};
+use sw_text::statuses::{BAD, GOOD};
 use sw_topo::Chan;
 
-/// What is wrong at the last of the places that a flow's packets go over, and the values of these.
+/// What is wrong at the last of the places that a flow's packets go over, what there is to note, and the values of these places.
 fn wrong_value(
     alloc: Global,
     network: &Network,
+    lint: &[String],
     flow: u16,
     place: Place,
     fault: RouteFault,
     way: &[Place],
 ) -> Result<Value, AllocError>
     requires { GoesWrong network.now flow place fault way.now }
-    ensures { IfOk result (λ v. view v ≡ wrong_value network.now flow place fault way.now) }
+    ensures { IfOk result (λ v. view v ≡ wrong_value network.now (map string_bytes lint.now) flow place fault way.now) }
 {
     let fault = misrouted_fault_value(alloc, place, fault)?;
+    let lint = text_values(alloc, lint)?;
     let way = place_values(alloc, network, way)?;
     let name = flow_name(network, flow);
     let members = vec![in alloc;
         ("fault", Member::Value(fault)),
         ("flow", Member::Text(name)),
         ("kind", Member::Text("misrouted")),
+        ("lint", Member::Value(Value::Array(lint))),
         ("way", Member::Value(Value::Array(way))),
     ]?;
     object_of(alloc, members)
@@ -166,29 +175,87 @@ fn tangle_values(
     Ok(values)
 }
 
-/// Channels that can wait for one another in circles.
-fn tangles_value(alloc: Global, network: &Network, tangles: &[Tangle]) -> Result<Value, AllocError>
+/// Channels that can wait for one another in circles, and what there is to note.
+fn tangles_value(
+    alloc: Global,
+    network: &Network,
+    lint: &[String],
+    tangles: &[Tangle],
+) -> Result<Value, AllocError>
     requires { IsTangled network.now tangles.now }
-    ensures { IfOk result (λ v. view v ≡ tangles_value network.now tangles.now) }
+    ensures { IfOk result (λ v. view v ≡ tangles_value network.now (map string_bytes lint.now) tangles.now) }
 {
     // Names the network, which is valid by its type.
     let _topology = network.topology();
+    let lint = text_values(alloc, lint)?;
     let values = tangle_values(alloc, network, tangles)?;
     let members = vec![in alloc;
         ("kind", Member::Text("cyclic")),
+        ("lint", Member::Value(Value::Array(lint))),
         ("tangles", Member::Value(Value::Array(values))),
     ]?;
     object_of(alloc, members)
 }
 
-/// The object that stands for what is told of a network.
-pub(crate) fn explain_value(
+/// The result where a flow is not well routed.
+fn wrong_outcome(
+    alloc: Global,
+    network: &Network,
+    flow: u16,
+    place: Place,
+    fault: RouteFault,
+    way: &[Place],
+) -> Result<CommandOutcome, AllocError>
+    requires { GoesWrong network.now flow place fault way.now }
+    ensures { IfOk result (λ o. WithNotes network.now (λ lint. wrong_value network.now lint flow place fault way.now) 1 (view o.result) o.status) }
+{
+    explanations_are_plain();
+    let lint = circling_texts(alloc, network)?;
+    let result = wrong_value(alloc, network, &lint, flow, place, fault, way)?;
+    Ok(CommandOutcome {
+        result,
+        status: BAD,
+    })
+}
+
+/// The result where channels can wait for one another in circles.
+fn tangles_outcome(
+    alloc: Global,
+    network: &Network,
+    tangles: &[Tangle],
+) -> Result<CommandOutcome, AllocError>
+    requires { IsTangled network.now tangles.now }
+    ensures { IfOk result (λ o. WithNotes network.now (λ lint. tangles_value network.now lint tangles.now) 1 (view o.result) o.status) }
+{
+    explanations_are_plain();
+    let lint = circling_texts(alloc, network)?;
+    let result = tangles_value(alloc, network, &lint, tangles)?;
+    Ok(CommandOutcome {
+        result,
+        status: BAD,
+    })
+}
+
+/// The result where the network never locks up.
+fn free_outcome(alloc: Global) -> Result<CommandOutcome, AllocError>
+    ensures { IfOk result (λ o. IsCommandOutcome (kind_value (codes "free")) 0 (view o.result) o.status) }
+{
+    kinds_are_plain();
+    let result = kind_value(alloc, "free")?;
+    Ok(CommandOutcome {
+        result,
+        status: GOOD,
+    })
+}
+
+/// The result of `explain`, where it found this of a network.
+pub(crate) fn explain_outcome(
     alloc: Global,
     network: &Network,
     explanation: &Explanation,
-) -> Result<Value, AllocError>
+) -> Result<CommandOutcome, AllocError>
     requires { IsExplanation network.now explanation.now }
-    ensures { IfOk result (λ v. view v ≡ explain_value network.now explanation.now) }
+    ensures { IfOk result (λ o. explain_results network.now explanation.now (view o.result) o.status) }
 {
     match explanation {
         Explanation::Misrouted {
@@ -196,8 +263,8 @@ pub(crate) fn explain_value(
             place,
             fault,
             way,
-        } => wrong_value(alloc, network, *flow, *place, *fault, way),
-        Explanation::Cyclic(tangles) => tangles_value(alloc, network, tangles),
-        Explanation::Free => kind_value(alloc, "free"),
+        } => wrong_outcome(alloc, network, *flow, *place, *fault, way),
+        Explanation::Cyclic(tangles) => tangles_outcome(alloc, network, tangles),
+        Explanation::Free => free_outcome(alloc),
     }
 }

@@ -1,12 +1,12 @@
 -- From what was judged of each path to the findings of all.
-use Rattle.std.proofs.Common.{◌≡◌, ◌∙◌, ℕ, zero, suc, ◌+◌, ◌<◌, ◌≤◌, List, [], ◌∷◌, Some, Option, IfSome, get_or, length, map, max, refl, sym, ap, subst, arith, unwrap_or}
+use Rattle.std.proofs.Common.{◌≡◌, ◌∙◌, ℕ, zero, suc, ◌+◌, ◌<◌, ◌≤◌, Bool, true, false, List, [], ◌∷◌, ◌++◌, Some, Option, IfSome, filter, take, get_or, length, map, max, refl, sym, ap, subst, arith, unwrap_or}
 use Rattle.std.specs.Borrow.{Bor}
 use Rattle.std.specs.Prelude.{slice_get}
-use Rattle.std.specs.List.{AllByRecursion, AllZip, range_with_len, reduce}
-use Rattle.std.proofs.lemmas.List.{length-map}
+use Rattle.std.specs.List.{AllByRecursion, AllZip, enumerate_from, range_with_len, reduce}
+use Rattle.std.proofs.lemmas.List.{length-map, length-take, map_more}
 use Rattle.std.proofs.lemmas.List.FromFn.{length-range_with_len}
 use Rattle.std.proofs.lemmas.Slice.Zip.{AllZip-long}
-use Rattle.sw_json_verdicts.specs.AuditAnswers.{AreFindings}
+use Rattle.sw_json_verdicts.specs.AuditAnswers.{AreFindings, numbers_of, numbers_without_flows}
 use Rattle.sw_json_verdicts.specs.AuditTexts.{worst}
 use Rattle.sw_json_verdicts.specs.Findings.{Finding, IsFinding}
 use Rattle.sw_json_verdicts.specs.Judgements.{AreJudged, IsJudgedAt, finding_of, findings_of}
@@ -110,3 +110,56 @@ pub is_worst : (options : AuditOptions) (gives : Giving) (keeps : Keeping) (path
 is_worst options gives keeps paths all h =
     let long = AllZip-long (IsJudgedAt options gives keeps paths) (range_with_len 0 (length paths)) all h in
     ap (λ statuses. unwrap_or (reduce max statuses) 0) (same_statuses paths all (long ∙ length-range_with_len 0 (length paths)))
+
+-- ---- networks without flows
+
+same_marks : (paths : List (List ℕ)) (all : List Judged) → length all ≡ length paths
+    → map (λ (j : Judged). j.flowless) all ≡ map (λ (f : Finding). f.flowless) (findings_of paths all)
+same_marks [] [] size = refl
+same_marks [] (j ∷ js) size = absurd (omega arith)
+same_marks (p ∷ ps) [] size = absurd (omega arith)
+same_marks (p ∷ ps) (j ∷ js) size = ap (λ rest. j.flowless ∷ rest) (same_marks ps js (omega arith))
+
+pub are_numbered : (options : AuditOptions) (gives : Giving) (keeps : Keeping) (paths : List (List ℕ)) (all : List Judged) → AreJudged options gives keeps paths all
+    → numbers_of (map (λ (j : Judged). j.flowless) all) ≡ numbers_without_flows (findings_of paths all)
+are_numbered options gives keeps paths all h =
+    let long = AllZip-long (IsJudgedAt options gives keeps paths) (range_with_len 0 (length paths)) all h in
+    ap numbers_of (same_marks paths all (long ∙ length-range_with_len 0 (length paths)))
+
+marks_append : (a : ℕ) (marks : List Bool) (b : Bool) → enumerate_from a (marks ++ b ∷ []) ≡ enumerate_from a marks ++ (a + length marks, b) ∷ []
+marks_append a [] b = let same : a ≡ a + 0 = omega arith in ap (λ n. (n, b) ∷ []) same
+marks_append a (m ∷ ms) b =
+    let same : a + 1 + length ms ≡ a + suc (length ms) = omega arith in
+    ap (λ rest. (a, m) ∷ rest) (marks_append (a + 1) ms b ∙ ap (λ n. enumerate_from (a + 1) ms ++ (n, b) ∷ []) same)
+
+filter_append : (xs ys : List (ℕ × Bool)) → filter (λ e. e.1) (xs ++ ys) ≡ filter (λ e. e.1) xs ++ filter (λ e. e.1) ys
+filter_append [] ys = refl
+filter_append ((n, true) ∷ xs) ys = ap (λ rest. (n, true) ∷ rest) (filter_append xs ys)
+filter_append ((n, false) ∷ xs) ys = filter_append xs ys
+
+map_append : (xs ys : List (ℕ × Bool)) → map (λ e. e.0) (xs ++ ys) ≡ map (λ e. e.0) xs ++ map (λ e. e.0) ys
+map_append [] ys = refl
+map_append (x ∷ xs) ys = ap (λ rest. x.0 ∷ rest) (map_append xs ys)
+
+numbers_push : (marks : List Bool) (b : Bool) → numbers_of (marks ++ b ∷ []) ≡ numbers_of marks ++ map (λ e. e.0) (filter (λ e. e.1) ((1 + length marks, b) ∷ []))
+numbers_push marks b =
+    ap (λ them. map (λ (e : ℕ × Bool). e.0) (filter (λ (e : ℕ × Bool). e.1) them)) (marks_append 1 marks b)
+    ∙ ap (map (λ (e : ℕ × Bool). e.0)) (filter_append (enumerate_from 1 marks) ((1 + length marks, b) ∷ []))
+    ∙ map_append (filter (λ e. e.1) (enumerate_from 1 marks)) (filter (λ e. e.1) ((1 + length marks, b) ∷ []))
+
+marks_push : (all : List Judged) (i : ℕ) (j : Judged) → i < length all → j ≡ get_or all i j
+    → map (λ (j : Judged). j.flowless) (take (i + 1) all) ≡ map (λ (j : Judged). j.flowless) (take i all) ++ j.flowless ∷ []
+marks_push all i j lt at = map_more (λ (j : Judged). j.flowless) all i j lt ∙ ap (λ (y : Judged). map (λ (j : Judged). j.flowless) (take i all) ++ y.flowless ∷ []) (sym at)
+
+first_marks : (all : List Judged) (i : ℕ) → i ≤ length all → length (map (λ (j : Judged). j.flowless) (take i all)) ≡ i
+first_marks all i le = length-map (take i all) (λ (j : Judged). j.flowless) ∙ length-take i all ∙ omega (arith, le)
+
+-- one file more
+pub one_marked : (all : List Judged) (i : ℕ) (j : Judged) (mark : Bool) (before : List ℕ) → i < length all → j ≡ get_or all i j → j.flowless ≡ mark
+    → before ≡ numbers_of (map (λ (j : Judged). j.flowless) (take i all))
+    → before ++ map (λ e. e.0) (filter (λ e. e.1) ((i + 1, mark) ∷ [])) ≡ numbers_of (map (λ (j : Judged). j.flowless) (take (i + 1) all))
+one_marked all i j mark before lt at is so_far =
+    let marks = map (λ (j : Judged). j.flowless) (take i all) in
+    let number : i + 1 ≡ 1 + length marks = omega (arith, first_marks all i (omega arith)) in
+    (λ t. so_far t ++ map (λ (e : ℕ × Bool). e.0) (filter (λ (e : ℕ × Bool). e.1) ((number t, sym is t) ∷ [])))
+    ∙ sym (numbers_push marks j.flowless) ∙ ap numbers_of (sym (marks_push all i j lt at))

@@ -1,12 +1,14 @@
 -- `route`, `check` and `report` have one answer, but for the places of faults.
-use Rattle.std.proofs.Common.{◌≡◌, ◌∙◌, ℕ, List, [], ◌∷◌, refl, subst, sym}
-use Rattle.std.specs.Prelude.{Err, None, Ok, Option, Result, Some, codes}
+use Rattle.std.proofs.Common.{◌≡◌, ◌∙◌, ℕ, List, [], ◌∷◌, ap, subst, sym}
+use Rattle.std.specs.Prelude.{Err, None, Ok, Option, Result, Some, codes, option_map}
+use Rattle.serde_json.specs.Data.{Data}
 use Rattle.sw_app.proofs.OneReport.{dependencies_once, places_once}
-use Rattle.sw_app.proofs.OneRoute.{SayTheSame, same_routes, same_status}
+use Rattle.sw_app.proofs.OneRoute.{SayTheSame, same_routes}
 use Rattle.sw_app.specs.CheckAnswers.{IsCertificateFinding, IsCheckFinding, IsJudged}
 use Rattle.sw_app.specs.declared.check_finding.CheckFinding.{CheckFinding}
 use Rattle.sw_app.specs.declared.check_finding.CheckFinding.TheVariants.{TooLong, WrongLine, Refused, Accepted}
-use Rattle.sw_app.specs.RouteAnswers.{IsRouteFinding, route_status}
+use Rattle.sw_app.specs.RouteAnswers.{IsRouteFinding}
+use Rattle.sw_app.specs.RouteTexts.{outcome_status}
 use Rattle.sw_app.specs.VerdictAnswers.{IsReportFinding}
 use Rattle.sw_app.specs.declared.route_finding.RouteFinding.{RouteFinding}
 use Rattle.sw_app.specs.declared.route_finding.RouteFinding.TheVariants.{UnknownFlow, Found}
@@ -18,28 +20,43 @@ use Rattle.sw_config.specs.Entries.{Declaration}
 use Rattle.sw_search.specs.Findings.{AreFindings}
 use Rattle.sw_search.specs.declared.verdict.Findings.{Findings}
 use Rattle.sw_json.specs.Answering.{read_value}
-use Rattle.sw_json.specs.ObjectAnswers.{by_value}
+use Rattle.sw_circles.specs.Circlings.{IsCirclingOf}
+use Rattle.sw_circles.proofs.Lawful.{one_told}
+use Rattle.sw_linter.specs.CirclingTexts.{IsCirclingText, circling_text}
+use Rattle.sw_linter.specs.LintTexts.{AreLintTexts}
+use Rattle.sw_linter.proofs.Lawful.{texts_determined}
 use Rattle.sw_json_verdicts.specs.CheckResults.{check_results}
 use Rattle.sw_json_verdicts.specs.Laws.{CheckHasOneAnswer, ReportHasOneAnswer, RouteHasOneAnswer}
-use Rattle.sw_json_verdicts.specs.ReportResults.{found_value, report_value}
-use Rattle.sw_json_verdicts.specs.RouteResults.{route_value, told_route}
-use Rattle.sw_json.proofs.OneObject.{one_object, value_once}
+use Rattle.sw_json_verdicts.specs.ReportResults.{found_value, report_results, report_value}
+use Rattle.sw_json_verdicts.specs.RouteResults.{route_results, told_route}
+use Rattle.sw_json.proofs.OneObject.{one_object}
 use Rattle.sw_json.proofs.OneResult.{AreOne, one_outcome}
 use Rattle.sw_json.proofs.OneVerdict.{one_verdict_value}
 
 -- ---- `route`
 
-same_value : (path : List ℕ) (d : Declaration) (x y : RouteFinding) → SayTheSame x y → route_value path d x ≡ route_value path d y
-same_value path d UnknownFlow UnknownFlow same = refl
-same_value path d UnknownFlow (Found other) same = absurd same
-same_value path d (Found route) UnknownFlow same = absurd same
-same_value path d (Found route) (Found other) (flow, places, fault) = λ t. told_route d (flow t) (places t) (fault t)
+-- the note on a flow is determined
+same_note : (d : Declaration) (flow other : ℕ) (note told : Option (List ℕ)) → flow ≡ other → IsCirclingText d flow note → IsCirclingText d other told → note ≡ told
+same_note d flow other note told same (c, is, text) (e, also, words) =
+    text ∙ ap (option_map (circling_text d)) (one_told d other c e (subst (λ n. IsCirclingOf d n c) same is) also) ∙ sym words
+
+same_result : (path : List ℕ) (d : Declaration) (x y : RouteFinding) → SayTheSame x y → (value said : Data) (status number : ℕ)
+    → route_results path d x value status → route_results path d y said number → (value ≡ said) × (status ≡ number)
+same_result path d UnknownFlow UnknownFlow same value said status number is tells = (is.0 ∙ sym tells.0, is.1 ∙ sym tells.1)
+same_result path d UnknownFlow (Found other) same value said status number is tells = absurd same
+same_result path d (Found route) UnknownFlow same value said status number is tells = absurd same
+same_result path d (Found route) (Found other) (flow, places, fault) value said status number (note, noted, is) (told, also, tells) =
+    let notes = same_note d route.flow other.flow note told flow noted also in (
+      is.0 ∙ (λ t. told_route d (flow t) (notes t) (places t) (fault t)) ∙ sym tells.0,
+      is.1 ∙ ap outcome_status fault ∙ sym tells.1,
+    )
 
 pub route_has_one_answer : RouteHasOneAnswer
 route_has_one_answer path name release given =
-    one_object (IsRouteFinding name) (by_value (route_value path) route_status) (codes "route") path (λ read. read_value path read ∷ []) release
-    (λ d. value_once (IsRouteFinding name) (route_value path) route_status (λ d x y h k. same_status x y (same_routes name d x y h k)) d
-    (λ x y h k. same_value path d x y (same_routes name d x y h k))) given
+    one_object (IsRouteFinding name) (route_results path) (codes "route") path (λ read. read_value path read ∷ []) release
+    (λ d value said status number (x, h, is) (y, k, tells).
+    let same = same_result path d x y (same_routes name d x y h k) value said status number is tells in
+    (same.1, λ good. same.0)) given
 
 -- ---- `check`
 
@@ -72,15 +89,17 @@ check_has_one_answer path other release first second =
 
 -- ---- `report`
 
-same_report : (d : Declaration) (f g : Findings) → AreFindings d f → AreFindings d g → found_value d f ≡ found_value d g
-same_report d f g h k =
+same_report : (d : Declaration) (lint told : List (List ℕ)) (f g : Findings) → AreLintTexts d lint → AreLintTexts d told → AreFindings d f → AreFindings d g
+    → found_value d lint f ≡ found_value d told g
+same_report d lint told f g noted also h k =
+    let notes = texts_determined d lint told noted also in
     let places = places_once d f.places g.places h.places k.places in
     let dependencies = dependencies_once d f.dependencies g.dependencies h.dependencies k.dependencies in
     let verdict = one_verdict_value d f.verdict g.verdict h.verdict k.verdict in
-    (λ i. report_value d (places i) (dependencies i) (verdict i))
+    (λ i. report_value d (notes i) (places i) (dependencies i) (verdict i))
 
 pub report_has_one_answer : ReportHasOneAnswer
 report_has_one_answer path release given =
-    one_object IsReportFinding (by_value (λ d found. found_value d found.findings) (λ _. 0)) (codes "report") path (λ read. read_value path read ∷ []) release
-    (λ d. value_once IsReportFinding (λ d found. found_value d found.findings) (λ _. 0) (λ d x y h k. refl) d
-    (λ x y h k. same_report d x.findings y.findings h k)) given
+    one_object IsReportFinding (λ d found. report_results d found.findings) (codes "report") path (λ read. read_value path read ∷ []) release
+    (λ d value said status number (x, h, (lint, noted, is)) (y, k, (told, also, tells)).
+    (is.1 ∙ sym tells.1, λ good. is.0 ∙ same_report d lint told x.findings y.findings noted also h k ∙ sym tells.0)) given

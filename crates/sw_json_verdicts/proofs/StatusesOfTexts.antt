@@ -10,13 +10,12 @@ use Rattle.sw_config.specs.Entries.{Declaration}
 use Rattle.sw_json.proofs.OneObject.{status_of_lines}
 use Rattle.sw_json.specs.Answering.{read_value}
 use Rattle.sw_json.specs.Laws.{HaveOneStatus}
-use Rattle.sw_json.specs.ObjectAnswers.{by_value}
 use Rattle.sw_json.specs.declared.files.Release.{Release}
 use Rattle.sw_json_verdicts.proofs.OneAnswer.{one_finding}
 use Rattle.sw_json_verdicts.specs.CheckResults.{IsCheckJson, check_has_status, check_results}
 use Rattle.sw_json_verdicts.specs.Laws.{HaveStatusesOfTexts}
-use Rattle.sw_json_verdicts.specs.ReportResults.{IsReportJson, found_value}
-use Rattle.sw_json_verdicts.specs.RouteResults.{IsRouteJson, route_value}
+use Rattle.sw_json_verdicts.specs.ReportResults.{IsReportJson, report_results}
+use Rattle.sw_json_verdicts.specs.RouteResults.{IsRouteJson, route_has_status, route_results}
 use Rattle.sw_text.specs.Ends.{IfLimited}
 
 -- ---- `route`
@@ -27,8 +26,8 @@ once name d x y h k = same_status x y (same_routes name d x y h k)
 
 of_route : (path name : List ℕ) (release : Release) (given : Option (List ℕ)) → HaveOneStatus (IsRouteJson path name release given) (IfLimited given (IsRouteAnswer name))
 of_route path name release given =
-    status_of_lines (IsRouteFinding name) (by_value (route_value path) route_status) (codes "route") path (λ read. read_value path read ∷ []) release
-    route_status (λ d x value status is. is.1) (IsRouteFinding name) route_lines route_status (once name) given
+    status_of_lines (IsRouteFinding name) (route_results path) (codes "route") path (λ read. read_value path read ∷ []) release
+    route_status (λ d x value status is. route_has_status path d x value status is) (IsRouteFinding name) route_lines route_status (once name) given
 
 -- ---- `check`
 
@@ -42,8 +41,8 @@ of_check path other release first second =
 
 of_report : (path : List ℕ) (release : Release) (given : Option (List ℕ)) → HaveOneStatus (IsReportJson path release given) (IfLimited given IsReportAnswer)
 of_report path release given =
-    status_of_lines IsReportFinding (by_value (λ d found. found_value d found.findings) (λ _. 0)) (codes "report") path (λ read. read_value path read ∷ []) release
-    (λ _. 0) (λ d x value status is. is.1) IsReportFinding report_lines (λ _. 0) (λ d x y h k. refl) given
+    status_of_lines IsReportFinding (λ d found. report_results d found.findings) (codes "report") path (λ read. read_value path read ∷ []) release
+    (λ _. 0) (λ d x value status is. is.2.1) IsReportFinding report_lines (λ _. 0) (λ d x y h k. refl) given
 
 -- ---- all
 

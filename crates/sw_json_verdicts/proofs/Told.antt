@@ -7,9 +7,9 @@ use Rattle.sw_text.specs.declared.write_answer.Ended.{Ended}
 use Rattle.sw_app.specs.declared.decide_finding.DecideFinding.{DecideFinding}
 use Rattle.sw_engine.specs.Tellings.{Findings}
 use Rattle.sw_engine.specs.declared.network_file.NetworkFile.{NetworkFile}
-use Rattle.sw_json_verdicts.specs.AuditAnswers.{IsAnswerOfFile, IsAuditTold, SaysFindings, TellsAudit}
+use Rattle.sw_json_verdicts.specs.AuditAnswers.{IsAnswerOfFile, IsAuditAnswer, IsAuditTold, IsNotedAnswer, SaysFindings, TellsAudit}
 use Rattle.sw_json_verdicts.specs.Findings.{Finding, IsFoundOfFile}
-use Rattle.sw_json_verdicts.specs.Stores.{Keeping}
+use Rattle.sw_json_verdicts.specs.Stores.{Giving, Keeping}
 use Rattle.sw_json_verdicts.specs.declared.audit_options.AuditOptions.{AuditOptions}
 
 pub told : (json : Bool) (P : Answers) (answer : Result Answer AllocError) (old new : Option (List ℕ)) (ended : Ended)
@@ -24,3 +24,8 @@ pub of_file : (options : AuditOptions) (keeps : Keeping) (path : List ℕ) (file
     → IfOk answer (λ a. IsAnswerOfFile options keeps path file findings (string_bytes a.text) a.status)
 of_file options keeps path file findings f (Ok a) found says = (f, found, says)
 of_file options keeps path file findings f (Err none) found says = tt
+
+-- what is told with the numbers of some files is told
+pub of_noted : (options : AuditOptions) (gives : Giving) (keeps : Keeping) (paths : List (List ℕ)) (numbers text : List ℕ) (status : ℕ)
+    → IsNotedAnswer options gives keeps paths numbers text status → IsAuditAnswer options gives keeps paths text status
+of_noted options gives keeps paths numbers text status (findings, are, says, noted) = (findings, are, says)

@@ -1,6 +1,6 @@
 -- What `audit` answers (this project's choice).
-use Rattle.std.specs.Prelude.{◌≡◌, ℕ, ◌+◌, ◌∷◌, [], Bool, false, true, List, Option, Result, Ok, Err, length, slice_get, string_bytes, Some}
-use Rattle.std.specs.List.{zip}
+use Rattle.std.specs.Prelude.{◌≡◌, ℕ, ◌+◌, ◌∷◌, [], Bool, false, true, List, Option, Result, Ok, Err, filter, length, map, slice_get, string_bytes, Some}
+use Rattle.std.specs.List.{enumerate_from, zip}
 use Rattle.sw_json_verdicts.specs.AuditTexts.{json_text, lines_text, objects, worst}
 use Rattle.sw_json_verdicts.specs.Findings.{Finding, IsFinding, IsFoundOfFile}
 use Rattle.sw_json_verdicts.specs.Stores.{Giving, Keeping}
@@ -46,6 +46,20 @@ SaysFindings options paths findings text status = IsText options (zip paths find
 abbrev pub IsAuditAnswer : AuditOptions → Giving → Keeping → List (List ℕ) → Answers
 IsAuditAnswer options gives keeps paths text status =
     (findings : List Finding) × AreFindings options gives keeps paths findings × SaysFindings options paths findings text status
+
+-- the numbers of those that are true, from 1
+abbrev pub numbers_of : List Bool → List ℕ
+numbers_of marks = map (λ e. e.0) (filter (λ e. e.1) (enumerate_from 1 marks))
+
+-- those of the files that are networks without flows
+abbrev pub numbers_without_flows : List Finding → List ℕ
+numbers_without_flows findings = numbers_of (map (λ f. f.flowless) findings)
+
+-- of files, of which those of these numbers are networks without flows
+abbrev pub IsNotedAnswer : AuditOptions → Giving → Keeping → List (List ℕ) → List ℕ → Answers
+IsNotedAnswer options gives keeps paths without_flows text status =
+    (findings : List Finding) × AreFindings options gives keeps paths findings × SaysFindings options paths findings text status
+    × (without_flows ≡ numbers_without_flows findings)
 
 -- of one file, of which this was read and found
 abbrev pub IsAnswerOfFile : AuditOptions → Keeping → List ℕ → NetworkFile → Findings DecideFinding → Answers

@@ -1,6 +1,6 @@
--- What is found of a file (this project's choice): its status, its verdict in a word, and the object that stands for both, where objects
--- are told.
-use Rattle.std.specs.Prelude.{◌≡◌, ◌⊎◌, ℕ, Bool, false, true, List, [], codes, Result, Ok, Err, None, Some}
+-- What is found of a file (this project's choice): its status, its verdict in a word, the object that stands for both, where objects
+-- are told, and whether it is a network without flows.
+use Rattle.std.specs.Prelude.{◌≡◌, ◌⊎◌, ℕ, Bool, false, true, List, [], ◌==◌, codes, length, Result, Ok, Err, None, Some}
 use Rattle.serde_json.specs.Data.{Data}
 use Rattle.sw_json_verdicts.specs.Names.{certificate_name}
 use Rattle.sw_json_verdicts.specs.Stores.{Given, whole, too_long, unread, no_memory, Giving, Keeping}
@@ -21,11 +21,15 @@ use Rattle.sw_search.specs.declared.verdict.Verdict.{Verdict}
 use Rattle.sw_search.specs.declared.verdict.Verdict.TheVariants.{Misrouted, Cyclic, Free}
 use Rattle.sw_text.specs.declared.fault.TextFault.{TextFault}
 
--- a file's status, word and object
+-- a file's status, word and object, and whether it is a network without flows
 pub record Finding : Type 0 where
   pub status : ℕ
   pub word : List ℕ
   pub object : Data
+  pub flowless : Bool
+
+abbrev pub has_no_flows : Declaration → Bool
+has_no_flows d = length d.flows == 0
 
 -- the verdict in a word
 abbrev pub verdict_word : Verdict → List ℕ
@@ -57,6 +61,7 @@ pub record IsVerdictFinding (options : AuditOptions) (keeps : Keeping) (number :
   pub status : IsStatus options.certificates keeps (certificate_name number path) verdict f.status
   pub word : f.word ≡ verdict_word verdict
   pub object : options.json ≡ true → IsVerdictEntry path text d verdict f.status f.object
+  pub flowless : f.flowless ≡ has_no_flows d
 
 -- the object of a text that is no network: its first fault
 abbrev pub IsFaultEntry : List ℕ → List ℕ → TextFault → Data → Type 0
@@ -67,6 +72,7 @@ pub record IsFaultFinding (options : AuditOptions) (path text : List ℕ) (fault
   pub status : f.status ≡ 3
   pub word : f.word ≡ codes "fault"
   pub object : options.json ≡ true → IsFaultEntry path text fault f.object
+  pub flowless : f.flowless ≡ false
 
 -- of a text that is a network, or of its first fault
 abbrev pub IsTextFinding : AuditOptions → Keeping → ℕ → List ℕ → List ℕ → Result Declaration TextFault → Finding → Type 0
@@ -78,6 +84,7 @@ pub record IsBareFinding (options : AuditOptions) (path : List ℕ) (status : �
   pub told_status : f.status ≡ status
   pub told_word : f.word ≡ word
   pub object : options.json ≡ true → f.object ≡ bare_entry path status verdict
+  pub flowless : f.flowless ≡ false
 
 -- memory was wanted
 abbrev pub IsMemoryFinding : AuditOptions → List ℕ → Finding → Type 0

@@ -17,7 +17,7 @@ object_of path None = bare_entry path 5 (kind_value (codes "memory"))
 
 -- what was judged of a path, as a finding
 abbrev pub finding_of : List ℕ → Judged → Finding
-finding_of path j = record { status = j.status; word = j.word.now; object = object_of path j.entry }
+finding_of path j = record { status = j.status; word = j.word.now; object = object_of path j.entry; flowless = j.flowless }
 
 -- of each path
 abbrev pub findings_of : List (List ℕ) → List Judged → List Finding

@@ -11,7 +11,9 @@ use Rattle.sw_json_verdicts.specs.RouteResults.{told_route}
 
 -- an object with a list of places
 abbrev pub RoutesArePlain : Type 0
-RoutesArePlain = (d : Declaration) (flow : ℕ) (places : List Place) (fault : Option (Place × RouteFault)) → IsPlain 3 (told_route d flow places fault)
+RoutesArePlain =
+    (d : Declaration) (flow : ℕ) (note : Option (List ℕ)) (places : List Place) (fault : Option (Place × RouteFault))
+    → IsPlain 3 (told_route d flow note places fault)
 
 -- one object
 abbrev pub RefusalsArePlain : Type 0
@@ -19,4 +21,4 @@ RefusalsArePlain = (r : Reason) (text : List ℕ) → IsPlain 1 (refused_value r
 
 -- an object round the verdict's
 abbrev pub ReportsArePlain : Type 0
-ReportsArePlain = (d : Declaration) (f : Findings) → IsPlain 5 (found_value d f)
+ReportsArePlain = (d : Declaration) (lint : List (List ℕ)) (f : Findings) → IsPlain 5 (found_value d lint f)

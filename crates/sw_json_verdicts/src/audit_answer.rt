@@ -1,7 +1,7 @@
 //! What `audit` answers.
 ghost use Rattle.std.specs.Prelude.{◌≡◌, ◌∷◌, [], IfOk, map, max, string_bytes, unwrap_or};
 ghost use Rattle.std.specs.List.{reduce};
-ghost use Rattle.sw_json_verdicts.specs.AuditAnswers.{IsAuditAnswer, SaysFindings};
+ghost use Rattle.sw_json_verdicts.specs.AuditAnswers.{IsNotedAnswer, SaysFindings, numbers_of};
 ghost use Rattle.sw_json_verdicts.specs.Findings.{IsFinding};
 ghost use Rattle.sw_json_verdicts.specs.Judgements.{AreJudged, finding_of, findings_of};
 
@@ -40,6 +40,26 @@ fn worst_status(all: &[Judged]) -> u8
     worst
 }
 
+/// The numbers of the files that are networks without flows, from 1.
+fn numbers_without_flows(alloc: Global, all: &[Judged]) -> Result<Vec<usize>, AllocError>
+    ensures { IfOk result (λ v. v.items ≡ numbers_of (map (λ j. j.flowless) all.now)) }
+{
+    let mut numbers = Vec::new(alloc);
+    for (place, judged) in all.iter().enumerate() {
+        if judged.flowless {
+            numbers.push(place + 1)?;
+        }
+    }
+    Ok(numbers)
+}
+
+/// An answer, with the numbers of the files that are networks without flows, from 1.
+#[derive(Drop)]
+pub(crate) struct NotedAnswer {
+    pub(crate) answer: Answer,
+    pub(crate) without_flows: Vec<usize>,
+}
+
 /// The answer to files of these paths, of which this was found.
 fn judged_answer<S: Storage>(
     alloc: Global,
@@ -47,10 +67,10 @@ fn judged_answer<S: Storage>(
     paths: &[&str],
     options: &AuditOptions<'_>,
     all: Vec<Judged>,
-) -> Result<Answer, AllocError>
+) -> Result<NotedAnswer, AllocError>
     requires { AreJudged options.now (S.gives storage.now) (S.keeps storage.now) (map (λ s. s.now) paths.now) all.items }
-    ensures of_all { IfOk result (λ a. IsAuditAnswer options.now (S.gives storage.now) (S.keeps storage.now) (map (λ s. s.now) paths.now) (string_bytes a.text) a.status) }
-    ensures said { IfOk result (λ a. SaysFindings options.now (map (λ s. s.now) paths.now) (findings_of (map (λ s. s.now) paths.now) all.items) (string_bytes a.text) a.status) }
+    ensures of_all { IfOk result (λ a. IsNotedAnswer options.now (S.gives storage.now) (S.keeps storage.now) (map (λ s. s.now) paths.now) a.without_flows.items (string_bytes a.answer.text) a.answer.status) }
+    ensures said { IfOk result (λ a. SaysFindings options.now (map (λ s. s.now) paths.now) (findings_of (map (λ s. s.now) paths.now) all.items) (string_bytes a.answer.text) a.answer.status) }
 {
     plain_at_more();
     verdicts_are_plain();
@@ -58,8 +78,12 @@ fn judged_answer<S: Storage>(
     kinds_are_plain();
     entries_are_plain();
     let status = worst_status(&all);
+    let without_flows = numbers_without_flows(alloc, &all)?;
     let text = audit_text(alloc, options, paths, all)?;
-    Ok(Answer { text, status })
+    Ok(NotedAnswer {
+        answer: Answer { text, status },
+        without_flows,
+    })
 }
 
 /// The answer to one file, of which this was found.
@@ -73,10 +97,10 @@ pub(crate) fn answer_to_one<S: Storage>(
     path: &str,
     options: &AuditOptions<'_>,
     judged: Judged,
-) -> Result<Answer, AllocError>
+) -> Result<NotedAnswer, AllocError>
     requires { IsFinding options.now (S.gives storage.now) (S.keeps storage.now) 1 path.now (finding_of path.now judged) }
-    ensures of_all { IfOk result (λ a. IsAuditAnswer options.now (S.gives storage.now) (S.keeps storage.now) (path.now ∷ []) (string_bytes a.text) a.status) }
-    ensures said { IfOk result (λ a. SaysFindings options.now (path.now ∷ []) (finding_of path.now judged ∷ []) (string_bytes a.text) a.status) }
+    ensures of_all { IfOk result (λ a. IsNotedAnswer options.now (S.gives storage.now) (S.keeps storage.now) (path.now ∷ []) a.without_flows.items (string_bytes a.answer.text) a.answer.status) }
+    ensures said { IfOk result (λ a. SaysFindings options.now (path.now ∷ []) (finding_of path.now judged ∷ []) (string_bytes a.answer.text) a.answer.status) }
 {
     let all = list_of(alloc, judged)?;
     judged_answer(alloc, storage, &[path], options, all)
@@ -94,8 +118,8 @@ pub(crate) fn audit_answer<T: Threads + Sync, C: VerdictWorkers, S: Storage + Sy
     storage: &S,
     paths: &[&str],
     options: &AuditOptions<'_>,
-) -> Result<Answer, AllocError>
-    ensures { IfOk result (λ a. IsAuditAnswer options.now (S.gives storage.now) (S.keeps storage.now) (map (λ s. s.now) paths.now) (string_bytes a.text) a.status) }
+) -> Result<NotedAnswer, AllocError>
+    ensures { IfOk result (λ a. IsNotedAnswer options.now (S.gives storage.now) (S.keeps storage.now) (map (λ s. s.now) paths.now) a.without_flows.items (string_bytes a.answer.text) a.answer.status) }
 {
     match paths {
         [path] => {

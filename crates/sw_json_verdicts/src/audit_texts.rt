@@ -76,6 +76,7 @@ fn add_object(
         status,
         word: _,
         entry,
+        flowless: _,
     } = judged;
     if !is_told(quiet, status) {
         return Ok(());

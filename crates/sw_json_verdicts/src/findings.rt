@@ -108,11 +108,13 @@ fn verdict_judged<S: Storage>(
     let keeping = options.certificates;
     let status = status_of(alloc, storage, keeping, named, verdict, &certificate)?;
     let word = verdict_word(verdict);
+    let flowless = network.declared_flows() == 0;
     if !options.json {
         return Ok(Judged {
             status,
             word,
             entry: None,
+            flowless,
         });
     }
     let path = named.path;
@@ -121,6 +123,7 @@ fn verdict_judged<S: Storage>(
         status,
         word,
         entry: Some(entry),
+        flowless,
     })
 }
 
@@ -139,6 +142,7 @@ fn fault_judged(
             status: FAULTY,
             word: "fault",
             entry: None,
+            flowless: false,
         });
     }
     let value = fault_value(alloc, text, fault)?;
@@ -147,6 +151,7 @@ fn fault_judged(
         status: FAULTY,
         word: "fault",
         entry: Some(entry),
+        flowless: false,
     })
 }
 
@@ -159,6 +164,7 @@ fn long_judged(alloc: Global, options: &AuditOptions<'_>, path: &str) -> Result<
             status: FAULTY,
             word: "fault",
             entry: None,
+            flowless: false,
         });
     }
     let entry = bare_entry(alloc, path, FAULTY, long_value(alloc)?)?;
@@ -166,6 +172,7 @@ fn long_judged(alloc: Global, options: &AuditOptions<'_>, path: &str) -> Result<
         status: FAULTY,
         word: "fault",
         entry: Some(entry),
+        flowless: false,
     })
 }
 
@@ -182,6 +189,7 @@ fn unread_judged(
             status: UNREAD_OR_UNWRITTEN,
             word: "unread",
             entry: None,
+            flowless: false,
         });
     }
     let entry = kind_entry(alloc, path, UNREAD_OR_UNWRITTEN, "unread")?;
@@ -189,6 +197,7 @@ fn unread_judged(
         status: UNREAD_OR_UNWRITTEN,
         word: "unread",
         entry: Some(entry),
+        flowless: false,
     })
 }
 

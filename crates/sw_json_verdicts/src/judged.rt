@@ -1,5 +1,5 @@
 //! What is kept of a file until all are judged.
-ghost use Rattle.std.specs.Prelude.{◌≡◌, IfOk, None, codes};
+ghost use Rattle.std.specs.Prelude.{◌≡◌, IfOk, None, codes, false};
 ghost use Rattle.serde_json.specs.View.{view};
 ghost use Rattle.sw_json.specs.FileValues.{bare_entry, kind_value};
 
@@ -22,6 +22,8 @@ pub(crate) struct Judged {
     pub(crate) word: &'static str,
     /// The object of the file, where objects are wanted; `None`: there was no memory for it, or for the verdict.
     pub(crate) entry: Option<Value>,
+    /// Whether the file is a network without flows.
+    pub(crate) flowless: bool,
 }
 
 /// That memory was wanted.
@@ -29,11 +31,13 @@ pub(crate) fn memory_judged() -> Judged
     ensures status { result.status ≡ 5 }
     ensures word { result.word.now ≡ codes "memory" }
     ensures entry { result.entry ≡ None }
+    ensures flowless { result.flowless ≡ false }
 {
     Judged {
         status: NO_ROOM,
         word: "memory",
         entry: None,
+        flowless: false,
     }
 }
 

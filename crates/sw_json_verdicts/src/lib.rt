@@ -22,7 +22,7 @@ mod statuses;
 mod stores;
 mod verdict_values;
 
-pub use audit_engine::{audit, audit_one};
+pub use audit_engine::{AuditEnd, audit, audit_one};
 pub use audit_options::AuditOptions;
 pub use disk::Disk;
 pub use stores::{AuditInput, Storage};

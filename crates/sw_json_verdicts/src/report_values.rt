@@ -1,15 +1,15 @@
 //! What `report` finds, as a value of JSON.
-ghost use Rattle.std.specs.Prelude.{◌≡◌, IfOk};
+ghost use Rattle.std.specs.Prelude.{◌≡◌, IfOk, map, string_bytes};
 ghost use Rattle.serde_json.specs.View.{view};
 ghost use Rattle.sw_json.specs.VerdictValues.{certificate_bytes};
 ghost use Rattle.sw_search.specs.Verdicts.{IsVerdict};
-ghost use Rattle.sw_json.specs.Answering.{IsCommandOutcome};
-ghost use Rattle.sw_json_verdicts.specs.ReportResults.{found_value, report_value};
+ghost use Rattle.sw_json_verdicts.specs.ReportResults.{report_results, report_value};
 
 use crate::laws::reports_are_plain;
 use std::alloc::{AllocError, Global};
 use sw_config::Network;
-use sw_json::{CommandOutcome, Member, Value, object_of, verdict_value};
+use sw_json::{CommandOutcome, Member, Value, object_of, text_values, verdict_value};
+use sw_linter::lint_texts;
 use sw_search::{Findings, Verdict};
 use sw_text::statuses::GOOD;
 
@@ -23,23 +23,26 @@ fn certificate_text(alloc: Global, verdict: &Verdict) -> Result<Vec<u8>, AllocEr
     }
 }
 
-/// How many parts the network has, with its verdict.
+/// How many parts the network has, with what there is to note of it and its verdict.
 fn told_report(
     alloc: Global,
     network: &Network,
+    lint: &[String],
     findings: &Findings,
     verdict: Value,
 ) -> Result<Value, AllocError>
-    ensures { IfOk result (λ v. view v ≡ report_value network.now findings.now.places findings.now.dependencies (view verdict)) }
+    ensures { IfOk result (λ v. view v ≡ report_value network.now (map string_bytes lint.now) findings.now.places findings.now.dependencies (view verdict)) }
 {
     let declared = network.declared_flows();
     let replies = network.flows() - declared;
+    let lint = text_values(alloc, lint)?;
     let members = vec![in alloc;
         ("channels", Member::Number(u64::from(network.channels()))),
         ("dependencies", Member::Number(findings.dependencies)),
         ("flows", Member::Number(u64::from(declared))),
         ("kind", Member::Text("report")),
         ("links", Member::Number(u64::from(network.links()))),
+        ("lint", Member::Value(Value::Array(lint))),
         ("nodes", Member::Number(u64::from(network.nodes()))),
         ("places", Member::Number(findings.places)),
         ("replies", Member::Number(u64::from(replies))),
@@ -60,12 +63,13 @@ pub(crate) fn report_outcome(
     findings: &Findings,
 ) -> Result<CommandOutcome, AllocError>
     requires { IsVerdict network.now findings.now.verdict }
-    ensures { IfOk result (λ o. IsCommandOutcome (found_value network.now findings.now) 0 (view o.result) o.status) }
+    ensures { IfOk result (λ o. report_results network.now findings.now (view o.result) o.status) }
 {
     reports_are_plain();
     let text = certificate_text(alloc, &findings.verdict)?;
     let verdict = verdict_value(alloc, network, &findings.verdict, &text)?;
-    let result = told_report(alloc, network, findings, verdict)?;
+    let lint = lint_texts(alloc, network)?;
+    let result = told_report(alloc, network, &lint, findings, verdict)?;
     Ok(CommandOutcome {
         result,
         status: GOOD,

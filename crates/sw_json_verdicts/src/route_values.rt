@@ -1,13 +1,15 @@
 //! What `route` finds, as a value of JSON.
-ghost use Rattle.std.specs.Prelude.{◌≡◌, ◌<◌, All, IfOk, length};
+ghost use Rattle.std.specs.Prelude.{◌≡◌, ◌<◌, All, IfOk, List, Option, length, map};
+ghost use Rattle.std.specs.Option.{option_to_list};
+ghost use Rattle.serde_json.specs.Data.{string};
 ghost use Rattle.serde_json.specs.View.{view};
-ghost use Rattle.sw_app.specs.RouteAnswers.{IsFlowRoute, IsRouteOf, route_status};
-ghost use Rattle.sw_app.specs.RouteTexts.{outcome_status};
+ghost use Rattle.sw_app.specs.RouteAnswers.{IsFlowRoute, IsRouteOf};
 ghost use Rattle.sw_config.specs.Entries.{all_flows, wiring_of};
 ghost use Rattle.sw_json.specs.AnswerValues.{file_fault_value};
 ghost use Rattle.sw_json.specs.Answering.{IsCommandOutcome};
 ghost use Rattle.sw_json.specs.FaultValues.{unknown_flow_value};
-ghost use Rattle.sw_json_verdicts.specs.RouteResults.{fault_or_null, route_kind, route_value, told_route};
+ghost use Rattle.sw_linter.specs.CirclingTexts.{IsCirclingText};
+ghost use Rattle.sw_json_verdicts.specs.RouteResults.{fault_or_null, flow_results, route_kind, route_results, told_route};
 
 use crate::laws::routes_are_plain;
 use std::alloc::{AllocError, Global};
@@ -17,8 +19,9 @@ use sw_flow::{Place, RouteFault};
 use sw_json::laws::faults_are_plain;
 use sw_json::{
     CommandOutcome, Member, Value, file_fault, misrouted_fault_value, object_of, place_values,
-    unknown_flow_value,
+    text_values, unknown_flow_value,
 };
+use sw_linter::flow_circling_text;
 
 /// A place with its fault, or null where there is none.
 fn fault_or_null(alloc: Global, fault: Option<(Place, RouteFault)>) -> Result<Value, AllocError>
@@ -39,7 +42,18 @@ fn kind_of(fault: &Option<(Place, RouteFault)>) -> &'static str
     }
 }
 
-/// The flow's name, its places, and the fault of one of them, if there is one.
+/// What there is to note of the flow: a text, or none.
+fn note_values(alloc: Global, network: &Network, flow: u16) -> Result<Vec<Value>, AllocError>
+    requires { flow < length (all_flows network.now) }
+    ensures { IfOk result (λ v. (note : Option (List ℕ)) × IsCirclingText network.now flow note × (map view v.items ≡ map string (option_to_list note))) }
+{
+    match flow_circling_text(alloc, network, flow)? {
+        Some(text) => text_values(alloc, &vec![in alloc; text]?),
+        None => Ok(Vec::new(alloc)),
+    }
+}
+
+/// The flow's name, what there is to note of it, its places, and the fault of one of them, if there is one.
 fn told_route(
     alloc: Global,
     network: &Network,
@@ -49,16 +63,18 @@ fn told_route(
 ) -> Result<Value, AllocError>
     requires within { flow < length (all_flows network.now) }
     requires places { All (λ p. p.channel < length (wiring_of network.now).ends) places.now }
-    ensures { IfOk result (λ v. view v ≡ told_route network.now flow places.now fault) }
+    ensures { IfOk result (λ v. (note : Option (List ℕ)) × IsCirclingText network.now flow note × (view v ≡ told_route network.now flow note places.now fault)) }
 {
     let kind = kind_of(&fault);
     let name = network.flow(flow).name();
     let fault = fault_or_null(alloc, fault)?;
+    let note = note_values(alloc, network, flow)?;
     let places = place_values(alloc, network, places)?;
     let members = vec![in alloc;
         ("fault", Member::Value(fault)),
         ("flow", Member::Text(name)),
         ("kind", Member::Text(kind)),
+        ("lint", Member::Value(Value::Array(note))),
         ("places", Member::Value(Value::Array(places))),
     ]?;
     object_of(alloc, members)
@@ -71,7 +87,7 @@ fn flow_outcome(
     route: &FlowRoute,
 ) -> Result<CommandOutcome, AllocError>
     requires { IsFlowRoute network.now route.now }
-    ensures { IfOk result (λ o. IsCommandOutcome (told_route network.now route.now.flow route.now.places.items route.now.fault) (outcome_status route.now.fault) (view o.result) o.status) }
+    ensures { IfOk result (λ o. flow_results network.now route.now (view o.result) o.status) }
 {
     routes_are_plain();
     let status = outcome_status(&route.fault);
@@ -100,7 +116,7 @@ pub(crate) fn route_outcome(
     found: &RouteFinding,
 ) -> Result<CommandOutcome, AllocError>
     requires { IsRouteOf network.now found.now }
-    ensures { IfOk result (λ o. IsCommandOutcome (route_value path.now network.now found.now) (route_status found.now) (view o.result) o.status) }
+    ensures { IfOk result (λ o. route_results path.now network.now found.now (view o.result) o.status) }
 {
     match found {
         RouteFinding::UnknownFlow => unknown_outcome(alloc, path),

@@ -1,10 +1,8 @@
 //! The answers of `route`, `report` and `check` as values of JSON.
 ghost use Rattle.std.specs.Prelude.{codes};
-ghost use Rattle.sw_app.specs.RouteAnswers.{route_status};
-ghost use Rattle.sw_json.specs.Answering.{IsCommandOutcome};
 ghost use Rattle.sw_json_verdicts.specs.CheckResults.{check_has_status, check_results};
-ghost use Rattle.sw_json_verdicts.specs.ReportResults.{found_value};
-ghost use Rattle.sw_json_verdicts.specs.RouteResults.{route_value};
+ghost use Rattle.sw_json_verdicts.specs.ReportResults.{report_results};
+ghost use Rattle.sw_json_verdicts.specs.RouteResults.{route_has_status, route_results};
 
 use crate::check_values::check_outcome;
 use crate::report_values::report_outcome;
@@ -21,7 +19,7 @@ pub struct VerdictValues;
 impl Values<RouteFinding> for VerdictValues {
     ghost command = { codes "route" };
 
-    ghost results_of = { λ path _ _ d found. IsCommandOutcome (route_value path d found) (route_status found) };
+    ghost results_of = { λ path _ _ d found. route_results path d found };
 
     fn command(&self) -> &'static str {
         "route"
@@ -38,13 +36,13 @@ impl Values<RouteFinding> for VerdictValues {
         route_outcome(alloc, path, network, found)
     }
 
-    ghost result_has_status = { λ _ _ _ _ _ _ _ is. is.1 };
+    ghost result_has_status = { λ path _ _ d found. route_has_status path d found };
 }
 
 impl Values<ReportFinding> for VerdictValues {
     ghost command = { codes "report" };
 
-    ghost results_of = { λ _ _ _ d found. IsCommandOutcome (found_value d found.findings) 0 };
+    ghost results_of = { λ _ _ _ d found. report_results d found.findings };
 
     fn command(&self) -> &'static str {
         "report"
@@ -61,7 +59,7 @@ impl Values<ReportFinding> for VerdictValues {
         report_outcome(alloc, network, &found.findings)
     }
 
-    ghost result_has_status = { λ _ _ _ _ _ _ _ is. is.1 };
+    ghost result_has_status = { λ _ _ _ _ _ _ _ is. is.2.1 };
 }
 
 impl Values<CheckFinding> for VerdictValues {

@@ -100,12 +100,12 @@ module _ (d : Declaration) (sound : IsSound (wiring_of d)) where
 
 -- ---- the addresses of an entry
 
-in_range : (a n k : ℕ) → a ≤ k → k < a + n → Contains (range_with_len a n) k
+pub in_range : (a n k : ℕ) → a ≤ k → k < a + n → Contains (range_with_len a n) k
 in_range a n k low high =
     let i : ℕ = k - a in
     (i, omega (arith, length-range_with_len a n), get_or-range_with_len a n i k (omega arith) ∙ omega arith)
 
-from_range : (a n k : ℕ) → Contains (range_with_len a n) k → (a ≤ k) × (k < a + n)
+pub from_range : (a n k : ℕ) → Contains (range_with_len a n) k → (a ≤ k) × (k < a + n)
 from_range a n k (i, lt, is) =
     let inside : i < n = omega (arith, length-range_with_len a n) in
     let here : a + i ≡ k = sym (get_or-range_with_len a n i k inside) ∙ is in

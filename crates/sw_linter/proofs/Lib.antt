@@ -18,3 +18,4 @@ mod KindsOfSlips
 pub mod Rooms
 mod Circles
 mod Initiators
+mod AddressesWorded

@@ -59,7 +59,7 @@ some_first : {A : Type 0} (a b : Option A) → is_some (first_of a b) ≡ is_som
 some_first None b = refl
 some_first (Some x) b = refl
 
-some_made : {A B : Type 0} (make : A → Option B) (xs : List A) → is_some (first_made make xs) ≡ list_any (λ x. is_some (make x)) xs
+pub some_made : {A B : Type 0} (make : A → Option B) (xs : List A) → is_some (first_made make xs) ≡ list_any (λ x. is_some (make x)) xs
 some_made make [] = refl
 some_made make (x ∷ xs) = some_first (make x) (first_made make xs) ∙ ap (λ b. is_some (make x) || b) (some_made make xs)
 

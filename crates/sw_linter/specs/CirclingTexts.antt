@@ -1,11 +1,11 @@
 -- How a flow is told whose packets can come back to a place, or of which none arrives (this project's choice).
-use Rattle.std.specs.Prelude.{ℕ, Bool, List, [], ◌∷◌, ◌++◌, codes, if◌then◌else◌}
+use Rattle.std.specs.Prelude.{◌≡◌, ℕ, Bool, List, [], ◌∷◌, ◌++◌, Option, codes, map, option_map, if◌then◌else◌}
 use Rattle.std.specs.List.{flat_map}
 use Rattle.sw_config.specs.Entries.{Declaration}
 use Rattle.sw_output.specs.ChannelTexts.{channel_text}
 use Rattle.sw_output.specs.FlowTexts.{flow_name}
 use Rattle.sw_output.specs.Lines.{spaced}
-use Rattle.sw_circles.specs.Circlings.{CirclingView}
+use Rattle.sw_circles.specs.Circlings.{AreCirclings, CirclingView, IsCirclingOf}
 use Rattle.sw_linter.specs.EndNames.{end_name}
 
 -- the texts of these, the first behind such words and each other behind a comma
@@ -29,3 +29,11 @@ circling_head d flow arrives = spaced (codes "packets of" ∷ flow_name d flow �
 
 abbrev pub circling_text : Declaration → CirclingView → List ℕ
 circling_text d c = circling_head d c.flow c.arrives ++ over d (over_words c.arrives) c.circles
+
+-- the texts of all such flows
+abbrev pub AreCirclingTexts : Declaration → List (List ℕ) → Type 0
+AreCirclingTexts d texts = (told : List CirclingView) × AreCirclings d told × (texts ≡ map (circling_text d) told)
+
+-- that of the flow of that number, if it is such a flow
+abbrev pub IsCirclingText : Declaration → ℕ → Option (List ℕ) → Type 0
+IsCirclingText d flow text = (told : Option CirclingView) × IsCirclingOf d flow told × (text ≡ option_map (circling_text d) told)

@@ -8,4 +8,5 @@ pub mod Notes
 pub mod Marks
 pub mod Laws
 pub mod InWords
+pub mod AddressWords
 pub use Rattle.sw_output.specs.Lines

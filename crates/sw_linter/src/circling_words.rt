@@ -1,10 +1,10 @@
 //! How a flow is told whose packets can come back to where they were, or of which none arrives.
-ghost use Rattle.std.specs.Prelude.{◌≡◌, ◌++◌, ◌∷◌, ◌<◌, [], All, IfOk, List, OnOk, Option, length, map, option_map, string_bytes};
+ghost use Rattle.std.specs.Prelude.{◌≡◌, ◌++◌, ◌∷◌, ◌<◌, [], All, IfOk, List, OnOk, length, map, option_map, string_bytes};
 ghost use Rattle.sw_output.specs.ChannelTexts.{channel_text};
 ghost use Rattle.sw_config.specs.Entries.{all_flows};
 ghost use Rattle.sw_flow.specs.Places.{ends_of};
-ghost use Rattle.sw_circles.specs.Circlings.{AreCirclings, CirclingView, IsCirclingOf};
-ghost use Rattle.sw_linter.specs.CirclingTexts.{circling_head, circling_text, listed, over, over_words, reach_words};
+ghost use Rattle.sw_circles.specs.Circlings.{AreCirclings, CirclingView};
+ghost use Rattle.sw_linter.specs.CirclingTexts.{AreCirclingTexts, IsCirclingText, circling_head, circling_text, listed, over, over_words, reach_words};
 
 use crate::texts::end_name;
 use std::alloc::{AllocError, Global};
@@ -155,7 +155,7 @@ pub(crate) fn add_circlings(
 ///
 /// There is no memory for the texts, or for what finds what they tell.
 pub fn circling_texts(alloc: Global, network: &Network) -> Result<Vec<String>, AllocError>
-    ensures { IfOk result (λ v. (told : List CirclingView) × AreCirclings network.now told × (map string_bytes v.items ≡ map (circling_text network.now) told)) }
+    ensures { IfOk result (λ v. AreCirclingTexts network.now (map string_bytes v.items)) }
 {
     let mut texts = Vec::new(alloc);
     add_circlings(alloc, network, &mut texts)?;
@@ -173,7 +173,7 @@ pub fn flow_circling_text(
     flow: u16,
 ) -> Result<Option<String>, AllocError>
     requires { flow < length (all_flows network.now) }
-    ensures { IfOk result (λ o. (told : Option CirclingView) × IsCirclingOf network.now flow told × (option_map string_bytes o ≡ option_map (circling_text network.now) told)) }
+    ensures { IfOk result (λ o. IsCirclingText network.now flow (option_map string_bytes o)) }
 {
     match circling_flow(alloc, network, flow)? {
         Some(circling) => Ok(Some(circling_text(alloc, network, &circling)?)),

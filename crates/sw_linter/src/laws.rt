@@ -1,4 +1,5 @@
 //! Laws of what is told. These functions do nothing: each is the proof of what its clause says.
+ghost use Rattle.sw_linter.specs.AddressWords.{AddressesAreToldInWords};
 ghost use Rattle.sw_linter.specs.InWords.{AllPlacesAreListed, ToldInWords};
 ghost use Rattle.sw_linter.specs.Laws.{LintTextsAreDetermined, LintsAreDetermined, NoFlowsIsToldAlone, NotesAreDetermined};
 
@@ -27,4 +28,10 @@ pub fn all_places_are_listed()
 /// may make commands wait.
 pub fn told_in_words()
     ensures { ToldInWords }
+{}
+
+/// In words of packets and of nodes: when packets come to a target with another address, when replies go to an address that the flow's node
+/// isn't known to have, and when the replies of two flows between the same nodes go to different addresses.
+pub fn addresses_are_told_in_words()
+    ensures { AddressesAreToldInWords }
 {}

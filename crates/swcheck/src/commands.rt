@@ -10,7 +10,7 @@ use crate::found_hints::{
     check_hint, decide_hint, draw_hint, hinted_cycle, mend_hint, replay_hint, report_hint,
     rmap_hint, route_hint, run_hint, witness_hint,
 };
-use crate::notes::{explained_notes_on, flow_note_on};
+use crate::notes::{explained_notes_on, flow_note_on, flowless_notes_on};
 use crate::noting_writer::NotingWriter;
 use crate::objects::{RELEASE, object, objects};
 use crate::opened::open_both;
@@ -32,7 +32,7 @@ use sw_changes::{ChangeValues, margin, mend};
 use sw_engine::{CommandEnd, FileSystem, Lines, SystemFiles};
 use sw_explain::{DrawOptions, ExplainValues, draw, explain};
 use sw_hints::unmigrated_hint;
-use sw_json_verdicts::{AuditOptions, Disk, VerdictValues, audit, audit_one};
+use sw_json_verdicts::{AuditEnd, AuditOptions, Disk, VerdictValues, audit, audit_one};
 use sw_runs::{RunValues, replay, witness};
 use sw_search::VerdictWorkers;
 use sw_text::Ended;
@@ -346,7 +346,7 @@ fn run_audit<R: AllocGlobal + Threads + Sync, C: VerdictWorkers, W: Write>(
     quiet: bool,
     certificates: Option<&str>,
     writer: &mut W,
-) -> Ended {
+) -> AuditEnd {
     let options = AuditOptions {
         json,
         quiet,
@@ -501,8 +501,12 @@ pub(crate) fn run_call<
             quiet,
             certificates,
         } => {
-            let ended = run_audit(rt, files, workers, paths, json, quiet, certificates, writer);
-            audit_end(rt, alloc, telling, certificates, ended)
+            let end = run_audit(rt, files, workers, paths, json, quiet, certificates, writer);
+            let notes = match json {
+                true => None,
+                false => flowless_notes_on(alloc, telling, paths, &end.without_flows),
+            };
+            audit_end(rt, alloc, telling, certificates, end.ended).with_notes(notes)
         }
         Call::Init { name } => CallEnd::from_ended(write_sample(rt, name, writer)),
     }

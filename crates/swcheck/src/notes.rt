@@ -1,11 +1,12 @@
 //! Notes on a network, which is probably not what was meant although it is valid.
 use crate::other_cycles::other_cycle_lines;
 use std::alloc::{AllocError, Global};
-use sw_calls::Notes;
+use sw_calls::{Hints, Notes, Telling};
 use sw_config::Network;
 use sw_engine::{CommandEnd, NetworkFile};
 use sw_explain::ExplainFinding;
-use sw_linter::{Note, circling_notes, flow_circling_text, notes};
+use sw_faults::show;
+use sw_linter::{Note, NoteKind, circling_notes, flow_circling_text, notes};
 use sw_search::{Explanation, VerdictWorkers};
 
 /// The longest texts, in bytes, whose network is noted on: what is noted of a longer one would take as long as the call itself.
@@ -123,5 +124,47 @@ pub(crate) fn flow_note_on(alloc: Global, file: &NetworkFile, flow: &str) -> Opt
     match file {
         NetworkFile::Network { network, .. } => flow_line(alloc, network, flow).ok(),
         _ => None,
+    }
+}
+
+/// The note on each of these files, by their numbers from 1, which are networks without flows.
+fn flowless_notes(
+    alloc: Global,
+    paths: &[&str],
+    numbers: &[usize],
+) -> Result<Vec<Note>, AllocError> {
+    let mut notes = Vec::new(alloc);
+    for number in numbers {
+        if let Some(path) = paths.get(number.wrapping_sub(1)) {
+            let path = show(alloc, path.as_bytes())?;
+            notes.push(Note {
+                kind: NoteKind::NoFlows,
+                text: format!(in alloc; "{path}: the network has no flows")?,
+            })?;
+        }
+    }
+    Ok(notes)
+}
+
+/// A line for each of them.
+fn flowless_lines(
+    alloc: Global,
+    wanted: Notes,
+    paths: &[&str],
+    numbers: &[usize],
+) -> Result<String, AllocError> {
+    note_lines(alloc, wanted, &flowless_notes(alloc, paths, numbers)?)
+}
+
+/// The notes on the files of an audit that are networks without flows, by their numbers, from 1. Nothing where there is no memory for them.
+pub(crate) fn flowless_notes_on(
+    alloc: Global,
+    telling: Telling,
+    paths: &[&str],
+    numbers: &[usize],
+) -> Option<String> {
+    match (telling.hints, telling.notes) {
+        (Hints::Never, _) | (_, Notes::Never) => None,
+        (_, wanted) => flowless_lines(alloc, wanted, paths, numbers).ok(),
     }
 }

@@ -1,9 +1,10 @@
 use Rattle.std.proofs.Common.{◌∙◌, List, ℕ, map, max, ap, unwrap_or}
 use Rattle.std.specs.Borrow.{Bor}
 use Rattle.std.specs.List.{reduce}
+use Rattle.sw_json_verdicts.specs.AuditAnswers.{numbers_of}
 use Rattle.sw_json_verdicts.specs.Judgements.{findings_of}
 use Rattle.sw_json_verdicts.specs.declared.judged.Judged.{Judged}
-use Rattle.sw_json_verdicts.proofs.Chosen.{are_findings, is_worst}
+use Rattle.sw_json_verdicts.proofs.Chosen.{are_findings, are_numbered, is_worst}
 use Rattle.sw_json_verdicts.proofs.Plainly.{findings_are_plain}
 use Rattle.sw_json_verdicts.proofs.audit_answer.judged_answer.Goals as goal
 
@@ -31,7 +32,11 @@ returns g c =
     let keeps = g.S.Storage.keeps c.args.storage.now in
     let worst = c.worst_status-status.ensures ∙ ap (λ (all : List Judged). unwrap_or (reduce max (map (λ (j : Judged). j.status) all)) 0) c.deref.ensures.value
     ∙ is_worst options gives keeps paths c.args.all.items c.requires in
+    let are = are_findings options gives keeps paths c.args.all.items c.requires in
+    let numbers =
+    c.in_ok-without_flows.ensures ∙ ap (λ (all : List Judged). numbers_of (map (λ (j : Judged). j.flowless) all)) c.deref-numbers_without_flows.ensures.value
+    ∙ are_numbered options gives keeps paths c.args.all.items c.requires in
     record {
-      of_all = (findings_of paths c.args.all.items, are_findings options gives keeps paths c.args.all.items c.requires, (c.in_ok-text.ensures, worst));
+      of_all = (findings_of paths c.args.all.items, are, (c.in_ok-text.ensures, worst), numbers);
       said = (c.in_ok-text.ensures, worst);
     }

@@ -8,4 +8,4 @@ returns-in-Ok g c = inl c.in-Ok.ensures
 pub returns-in-Err : goal.returns-in-Err
 returns-in-Err g c =
     let is = c.memory_judged.ensures in
-    inr (memory_found c.args.options.now c.args.named.path.now c.memory_judged.result is.status is.word is.entry)
+    inr (memory_found c.args.options.now c.args.named.path.now c.memory_judged.result is.status is.word is.entry is.flowless)

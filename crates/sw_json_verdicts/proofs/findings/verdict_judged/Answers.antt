@@ -1,4 +1,5 @@
-use Rattle.std.proofs.Common.{refl, sym, ◌∙◌}
+use Rattle.std.proofs.Common.{ap, refl, sym, ◌∙◌}
+use Rattle.std.specs.Prelude.{◌==◌}
 use Rattle.std.proofs.lemmas.Bool.{false≢true}
 use Rattle.sw_json_verdicts.proofs.findings.verdict_judged.Goals as goal
 
@@ -10,6 +11,7 @@ returns-then-not-options g c = (
     status = c.in_ok-status.ensures;
     word = c.verdict_word-word.ensures;
     object = λ told. absurd (false≢true (sym c.if-not-options.true ∙ told));
+    flowless = ap (λ n. n == 0) c.declared_flows.ensures.count;
   },
   refl,
 )
@@ -22,6 +24,7 @@ returns g c = (
     status = c.in_ok-status.ensures;
     word = c.verdict_word-word.ensures;
     object = λ told. c.in_ok-entry.ensures;
+    flowless = ap (λ n. n == 0) c.declared_flows.ensures.count;
   },
   refl,
 )

@@ -7,7 +7,10 @@ pub told_route-requires-clause-places : goal.told_route-requires-clause-places
 told_route-requires-clause-places c = route_within c.args.network.now c.args.route.now c.deref.result.now c.requires c.deref.ensures.value
 
 pub invariant_of-result : goal.invariant_of-result
-invariant_of-result c = record {
-  whole = whole_of 3 _ _ c.in_ok-result.ensures (c.routes_are_plain.ensures c.args.network.now c.args.route.now.flow c.deref.result.now c.args.route.now.fault);
-  flat = flat_of 3 _ _ (omega arith) c.in_ok-result.ensures (c.routes_are_plain.ensures c.args.network.now c.args.route.now.flow c.deref.result.now c.args.route.now.fault);
-}
+invariant_of-result c =
+    let told = c.in_ok-result.ensures in
+    let plain = c.routes_are_plain.ensures c.args.network.now c.args.route.now.flow told.0 c.deref.result.now c.args.route.now.fault in
+    record {
+      whole = whole_of 3 _ _ told.2 plain;
+      flat = flat_of 3 _ _ (omega arith) told.2 plain;
+    }
