@@ -32,14 +32,14 @@ const JSON: CommandPart = ("json", Takes::Flag, "Print the answer as one JSON ob
 /// The subcommands, each by itself: what a table costs to prove grows faster than the square of its rows.
 const ROUTE: &Subcommand = &Subcommand {
     name: "route",
-    about: "Print the places of a flow; routed: packets that arrive do so rightly, but they may circle",
+    about: "Print the places of a flow; 'routed' means: packets that arrive do so correctly, but some may circle",
     example: "Example: swcheck route examples/line.toml f",
     parts: &[
         FILE,
         (
             "FLOW",
             Takes::Value,
-            "The name of a flow, or NAME+reply of its replies",
+            "The name of a flow, or NAME+reply for its replies",
         ),
         JSON,
     ],
@@ -61,21 +61,21 @@ const CHECK: &Subcommand = &Subcommand {
 
 const REPORT: &Subcommand = &Subcommand {
     name: "report",
-    about: "Print how many parts a network has, and the verdict on it",
+    about: "Print the size of a network, and the verdict on it",
     example: "Example: swcheck report examples/ring.toml",
     parts: &[FILE, JSON],
 };
 
 const REPLAY: &Subcommand = &Subcommand {
     name: "replay",
-    about: "Make the steps of a schedule, and print what comes of them",
+    about: "Carry out the steps of a schedule, and print the result",
     example: "Example: swcheck replay examples/line.toml examples/line.schedule",
     parts: &[FILE, ("SCHEDULE", Takes::Value, "A schedule file"), JSON],
 };
 
 const RUN: &Subcommand = &Subcommand {
     name: "run",
-    about: "Send the packets of a load through a network, and print what comes of them",
+    about: "Send the packets of a load through a network, and print the result",
     example: "Example: swcheck run examples/turn.toml examples/turn.load",
     parts: &[
         FILE,
@@ -83,12 +83,12 @@ const RUN: &Subcommand = &Subcommand {
         (
             "workers",
             Takes::Count("4", MOST_WORKERS),
-            "How many threads work, 1 to 64",
+            "How many threads to use, 1 to 64",
         ),
         (
             "limit",
             Takes::Count("1000000", MOST_STEPS),
-            "How many steps may be made, 1 to 16777216",
+            "How many steps to make at most, 1 to 16777216",
         ),
         (
             "schedule",
@@ -98,7 +98,7 @@ const RUN: &Subcommand = &Subcommand {
         (
             "summary",
             Takes::Flag,
-            "Tell on standard error what became of each flow's packets",
+            "Print on standard error what became of each flow's packets",
         ),
         JSON,
     ],
@@ -120,7 +120,7 @@ const EXPLAIN: &Subcommand = &Subcommand {
         (
             "all",
             Takes::Flag,
-            "Name each flow that makes a step, not just six of them",
+            "For each step, name all flows that make it, not just six",
         ),
         JSON,
     ],
@@ -128,7 +128,7 @@ const EXPLAIN: &Subcommand = &Subcommand {
 
 const DRAW: &Subcommand = &Subcommand {
     name: "draw",
-    about: "Print a drawing of a network, in the language DOT of Graphviz",
+    about: "Print a drawing of a network, in Graphviz's DOT language",
     example: "Example: swcheck draw examples/ring.toml --cycle",
     parts: &[
         FILE,
@@ -136,19 +136,19 @@ const DRAW: &Subcommand = &Subcommand {
         (
             "cycle",
             Takes::Flag,
-            "Draw the first shortest cycle red, its steps numbered",
+            "Draw the first shortest cycle in red, with its steps numbered",
         ),
         (
             "numbers",
             Takes::Flag,
-            "Write the numbers of the channels, where the network never locks up",
+            "Show each channel's number in the certificate, if the network never locks up",
         ),
     ],
 };
 
 const RMAP: &Subcommand = &Subcommand {
     name: "rmap",
-    about: "Print the entry of a load for an RMAP command of a flow",
+    about: "Print the load entry that sends an RMAP command along a flow",
     example: "Example: swcheck rmap examples/rmap.toml w read 0xA0000000 16",
     parts: &[
         FILE,
@@ -157,14 +157,14 @@ const RMAP: &Subcommand = &Subcommand {
         (
             "ADDRESS",
             Takes::Value,
-            "The first address, decimal or 0x and hexadecimal",
+            "The first address, decimal or hexadecimal with 0x",
         ),
         (
             "VALUE",
             Takes::Value,
-            "How many bytes are read, or the bytes that are written, as hexadecimal pairs",
+            "How many bytes to read, or the bytes to write, as pairs of hexadecimal digits",
         ),
-        ("no-ack", Takes::Flag, "Ask for no reply to a write"),
+        ("no-ack", Takes::Flag, "Do not ask for a reply to a write"),
         (
             "transaction",
             Takes::Text,
@@ -182,7 +182,7 @@ const MEND: &Subcommand = &Subcommand {
         (
             "pairs",
             Takes::Flag,
-            "Where no single change but of a whole unit frees it, print each pair that does",
+            "If no single change frees it, except taking out all flows of a node, print each pair that does",
         ),
         JSON,
     ],
@@ -190,7 +190,7 @@ const MEND: &Subcommand = &Subcommand {
 
 const MARGIN: &Subcommand = &Subcommand {
     name: "margin",
-    about: "Print how far the premises of a network that never locks up bend",
+    about: "Print how far the premises of a network can be relaxed while it still never locks up",
     example: "Example: swcheck margin examples/turn.toml",
     parts: &[FILE, JSON],
 };
@@ -209,7 +209,7 @@ const WITNESS: &Subcommand = &Subcommand {
         (
             "seed",
             Takes::Count("1", MOST_SEED),
-            "Where the choices begin, 1 to 4294967295",
+            "The seed of the random choices, 1 to 4294967295",
         ),
     ],
 };
@@ -236,7 +236,7 @@ const AUDIT: &Subcommand = &Subcommand {
 
 const INIT: &Subcommand = &Subcommand {
     name: "init",
-    about: "Print a sample network file: the bus, where no NAME is given",
+    about: "Print a sample network file: the bus, if no NAME is given",
     example: "Example: swcheck init",
     parts: &[(
         "NAME",

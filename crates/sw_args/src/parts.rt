@@ -41,21 +41,21 @@ pub(crate) struct Subcommand {
 const HINTS: CommandPart = (
     "hints",
     Takes::Text,
-    "auto: tell on standard error what to do about what was found; never: nothing",
+    "auto: print on standard error what to do about what was found; never: print no hints or notes",
 );
 
 /// How many notes to tell.
 const NOTES: CommandPart = (
     "notes",
     Takes::Text,
-    "few: tell three notes of a kind, and count the others; all: tell each; never: tell none",
+    "few: print three notes of each kind, and count the others; all: print all; never: print none",
 );
 
 /// Whether to tell each fault.
 const ALL_FAULTS: CommandPart = (
     "all-faults",
     Takes::Flag,
-    "Tell on standard error each fault that can be told, not only the first",
+    "Print on standard error every fault that can be found, not only the first",
 );
 
 /// A number from 1 up to the most.

@@ -141,6 +141,6 @@ pub fn write_sample<R: Eprint, W: Write>(rt: &R, name: Option<&str>, writer: &mu
 {
     match sample_named(name) {
         Some(sample) => init(sample, writer),
-        None => tell_refused(rt, "NAME is bus, ring, housekeeping, regions or limits"),
+        None => tell_refused(rt, "NAME may be bus, ring, housekeeping, regions or limits"),
     }
 }

@@ -22,7 +22,7 @@ pub fn given_texts<R: Env + Print + Eprint + AllocGlobal>(rt: &R) -> Result<Vec<
             rt,
             &WordsFault::Memory,
         )),
-        Err(_) => return Err(tell_refused(rt, "the words are no UTF-8 text").status()),
+        Err(_) => return Err(tell_refused(rt, "the arguments are not UTF-8 text").status()),
     };
     match given.collect::<Vec<String>>(rt.alloc()) {
         Ok(texts) => Ok(texts),

@@ -9,7 +9,7 @@ use sw_text::Ended;
 use sw_text::statuses::REFUSED;
 
 /// What is told of a value that an option does not have.
-const NO_VALUE: &str = "--hints is auto or never, and --notes few, all or never";
+const NO_VALUE: &str = "--hints must be auto or never, and --notes must be few, all or never";
 
 /// Tells of a read or a write that failed. How the call ended stays as it is.
 pub fn told_end(rt: &impl Eprint, ended: Ended) -> Ended

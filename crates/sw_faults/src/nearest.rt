@@ -65,7 +65,7 @@ pub fn like<'a>(alloc: Global, name: &str, texts: &[&'a str]) -> Result<Option<&
 /// There is no memory for the text, or to compare them.
 pub fn meant_help(alloc: Global, name: &str, texts: &[&str]) -> Result<String, AllocError> {
     match like(alloc, name, texts)? {
-        Some(text) => format!(in alloc; "is '{text}' meant?"),
+        Some(text) => format!(in alloc; "did you mean '{text}'?"),
         None => Ok(String::new(alloc)),
     }
 }

@@ -11,12 +11,12 @@ use sw_text::Section;
 fn entry_and_words(alloc: Global, note: Note) -> (Option<Section>, Made<String>) {
     let text = |words: &str| String::from_str(alloc, words);
     match note {
-        Note::HasName(entry) => (Some(entry), text("has the name already")),
-        Note::Unlinked => (None, text("no link is at this node")),
+        Note::HasName(entry) => (Some(entry), text("already has this name")),
+        Note::Unlinked => (None, text("this node has no link")),
         Note::LinkHere(link) => (Some(Section::Link(link)), text("is at this node")),
         Note::HasPort(link, end) => (
             Some(Section::Link(link)),
-            format!(in alloc; "has the port of '{}' already", end.text()),
+            format!(in alloc; "already has the port of '{}'", end.text()),
         ),
         Note::IsFor(switch, route, first, last) => (
             Some(Section::Route(switch, route)),
@@ -26,11 +26,11 @@ fn entry_and_words(alloc: Global, note: Note) -> (Option<Section>, Made<String>)
         Note::LeadingZero => (None, text("the path begins with 0")),
         Note::NoInitiator(initiator) => (
             None,
-            format!(in alloc; "the initiator is {initiator}, which is no logical address"),
+            format!(in alloc; "the initiator is {initiator}, which is not a logical address"),
         ),
         Note::NoTarget(node) => (
             Some(Section::Node(node)),
-            text("is where the flow ends, and has no 'target'"),
+            text("is where the flow ends, but has no 'target'"),
         ),
     }
 }

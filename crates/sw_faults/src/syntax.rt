@@ -48,7 +48,7 @@ fn header_words(error: &Error, rest: &[u8]) -> Option<&'static str> {
     let is_taken = message == ErrorKind::Extend.description()
         || message == ErrorKind::DuplicateKey.description();
     (is_taken && rest.starts_with(b"[[")).then_some(
-        "a list that is written in [ ] gets no further entries by a header: write all in [ ], or all below headers",
+        "a list written in [ ] gets no more entries from a header: write all of them in [ ], or all below headers",
     )
 }
 
@@ -88,7 +88,7 @@ pub(crate) fn syntax_help(alloc: Global, text: &[u8], error: &Error) -> Made<Str
     match misspelt_digits(rest) {
         Some(digits) => {
             let digits = show(alloc, digits)?;
-            format!(in alloc; "a hexadecimal number begins with a small 0x: write 0x{digits}")
+            format!(in alloc; "a hexadecimal number begins with a lower-case 0x: write 0x{digits}")
         }
         None if error.message() == ErrorKind::Recursion.description() => Ok(String::new(alloc)),
         None => unclosed_help(alloc, text, place),

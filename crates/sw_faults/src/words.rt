@@ -21,8 +21,8 @@ struct Words {
 
 fn words_of(fault: &TextFault) -> Words {
     let (wrong, right, help) = match fault {
-        TextFault::Syntax => ("the text is no TOML", "a TOML 1.1 text", ""),
-        TextFault::UnknownKey(_, _) => ("a table has no such key", "", ""),
+        TextFault::Syntax => ("the text is not TOML", "a TOML 1.1 text", ""),
+        TextFault::UnknownKey(_, _) => ("this table can't have this key", "", ""),
         TextFault::Key(KeyFault::MissingKey, Section::Document, Key::Version) => (
             "a key is missing here",
             "",
@@ -31,12 +31,12 @@ fn words_of(fault: &TextFault) -> Words {
         TextFault::Key(KeyFault::MissingKey, _, _) => (
             "a key is missing here",
             "",
-            "a key belongs to the header or the brace that stands above it last",
+            "a key belongs to the last header or brace above it",
         ),
         TextFault::Key(KeyFault::WrongType, _, _) => (
-            "the value is of another type",
+            "the value has the wrong type",
             "",
-            "a text stands in quotes, a number and true or false do not; a list stands in [ ], a table in { }",
+            "write a text in quotes, a number or true or false without quotes, a list in [ ], a table in { }",
         ),
         TextFault::Key(KeyFault::OutOfRange, _, _) => ("the value is not allowed", "", ""),
         TextFault::Key(KeyFault::DuplicateName, section, _) => (
@@ -55,37 +55,37 @@ fn words_of(fault: &TextFault) -> Words {
                 Limit::Switches => "at most 512 switches",
                 Limit::Links => "at most 1024 links",
             },
-            "split the network where no flow goes over the cut",
+            "split the network where no flow crosses the cut",
         ),
         TextFault::Topology(TopoFault::PortTaken(_)) => (
-            "an end of the link is at a port that has a link already",
+            "an end of the link is at a port that already has a link",
             "at most one link at each port of a switch",
             "each end of a link needs a port of its own",
         ),
         TextFault::Topology(TopoFault::NodeLinks(_)) => (
-            "the node has no link, or several",
+            "the node has no link, or more than one",
             "exactly one link for each node",
-            "several links: several nodes, or a switch in front of one",
+            "for several links, use several nodes, or put a switch in front of the node",
         ),
         TextFault::Topology(TopoFault::PortUnlinked(_)) => (
             "the switch has no link",
-            "a link at one port of each switch at least",
-            "link the switch, or leave it out",
+            "at least one link at each switch",
+            "give the switch a link, or leave it out",
         ),
         TextFault::DuplicateRoute(_, _) => (
-            "an entry before it is for one of the same addresses",
-            "one entry at most for each address of a switch",
-            "several ports for one address stand in one entry's 'ports'",
+            "an earlier entry is for one of the same addresses",
+            "at most one entry for each address of a switch",
+            "list several ports for one address in the 'ports' of one entry",
         ),
         TextFault::ReplyShape(_) => (
             "the replies can't come back",
-            "a path of at most 12 numbers, the first not 0; an initiator from 32 to 254; 'to' a node with a target",
+            "a 'path' of at most 12 numbers, the first not 0; an 'initiator' from 32 to 254; a 'to' that is a node with a target",
             "a reply begins with its path and then the initiator, and comes from a target",
         ),
         TextFault::NotInFlow(_) => (
             "the flow doesn't declare this packet",
-            "no command that the target would answer, or one whose reply goes where the flow's 'reply' says",
-            "give the flow a 'reply' as the command's reply address and initiator say, or change the command",
+            "a packet that the target would not answer, or a command whose reply goes where the flow's 'reply' says",
+            "give the flow a 'reply' that matches the command's reply address and initiator, or change the command",
         ),
     };
     Words { wrong, right, help }
@@ -150,13 +150,13 @@ fn key_help(alloc: Global, version: Version, section: Section, name: &str) -> Ma
         _ => Section::Document.keys(version),
     };
     let words = if is_new_key(Version::One, Version::Two, section, name) {
-        "this key is there from version 2 on: write version = 2"
+        "this key exists from version 2 on: write version = 2"
     } else if is_new_key(Version::Two, Version::Three, section, name) {
-        "this key is there from version 3 on: write version = 3"
+        "this key exists from version 3 on: write version = 3"
     } else if is_known(keys, name) {
-        "a node has no ports: this key stands beside the name of a switch"
+        "a node has no ports: this key goes only with the name of a switch"
     } else if is_known(outer, name) {
-        "a key that stands below a header, as [[switch]], belongs to that table: write it above the first header"
+        "a key below a header such as [[switch]] belongs to that table: write it above the first header"
     } else {
         return meant_help(alloc, name, &key_texts(alloc, keys)?);
     };

@@ -109,7 +109,7 @@ impl<'a> Refused<'a> {
         let found = self.teller.fault_text(place, fault)?;
         let expected = self
             .teller
-            .text("places of the flow alone, and none with a fault")?;
+            .text("only places of the flow, and none with a fault")?;
         Ok((format!(in alloc; "{listed}, {found}")?, expected))
     }
 
@@ -195,7 +195,7 @@ pub fn refused_certificate_hint(
     Ok(Hint {
         found,
         expected,
-        help: format!(in alloc; "swcheck decide {file} writes a certificate where there is one")?,
+        help: format!(in alloc; "swcheck decide {file} prints a certificate if there is one")?,
         ..Hint::new(alloc, what)
     })
 }

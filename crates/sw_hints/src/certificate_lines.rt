@@ -11,13 +11,13 @@ fn expected_after(before: &[u8]) -> &'static str {
     if before.is_empty() {
         "swcert 1"
     } else if before.starts_with(b"swcert") {
-        "channels N, N from 0 to 2048"
+        "'channels N', with N from 0 to 2048"
     } else if before.starts_with(b"channels") || before.starts_with(b"number") {
-        "number V, V from 0 to 65535, for each channel, and then flows M, M from 0 to 8192"
+        "for each channel 'number V', with V from 0 to 65535, and then 'flows M', with M from 0 to 8192"
     } else if before.starts_with(b"end") {
-        "nothing behind the line 'end'"
+        "nothing after the line 'end'"
     } else {
-        "for each flow flow P, P from 0 to 67584, and P lines place C K, C from 0 to 65535, K from 0 to 32, rising by C and then by K; then end"
+        "for each flow 'flow P', with P from 0 to 67584, and P lines 'place C K', C from 0 to 65535 and K from 0 to 32, rising by C and then by K; then 'end'"
     }
 }
 
@@ -46,7 +46,9 @@ fn flows_before(text: &[u8], line: usize) -> usize {
 ///
 /// There is no memory for the hint.
 pub fn certificate_line_hint(alloc: Global, text: &[u8], line: usize) -> Result<Hint, AllocError> {
-    let what = format!(in alloc; "refused C1 Grammar {line}: the line is not as the grammar asks")?;
+    let what = format!(in alloc;
+        "refused C1 Grammar {line}: the line does not follow the grammar"
+    )?;
     let (words, before) = (nth_line(text, line), nth_line(text, line.saturating_sub(1)));
     let expected = String::from_str(alloc, expected_after(before));
     let mut hint = line_hint(alloc, line, words, words, what, expected)?;
@@ -56,7 +58,7 @@ pub fn certificate_line_hint(alloc: Global, text: &[u8], line: usize) -> Result<
         let flow = flows_before(text, line).saturating_sub(1);
         let ((channel, deleted), (last_channel, last_deleted)) = (place, last);
         hint.notes.push(format!(in alloc;
-            "place {channel} {deleted} of flow {flow} stands behind place {last_channel} {last_deleted}"
+            "place {channel} {deleted} of flow {flow} comes after place {last_channel} {last_deleted}"
         )?)?;
     }
     note_kind(alloc, TextKind::Certificate, text, &mut hint)?;

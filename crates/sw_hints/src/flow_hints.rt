@@ -10,11 +10,11 @@ use sw_output::flow_name;
 
 /// Where to look at channels that can wait for one another in a circle.
 const CYCLIC_HELP: &str =
-    "swcheck explain shows the shortest cycle, mend what to change, witness a schedule that locks up";
+    "see swcheck explain for the shortest cycle, mend for what to change, witness for a schedule that locks up";
 
 /// The same where the shortest cycle is told already.
 const SHORTEST_HELP: &str =
-    "swcheck explain tells its causes, mend what to change, witness a schedule that locks up";
+    "see swcheck explain for its causes, mend for what to change, witness for a schedule that locks up";
 
 /// How many channels of a cycle are told.
 const MOST_TOLD: usize = 12;

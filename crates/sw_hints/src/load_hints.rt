@@ -22,7 +22,7 @@ impl Teller<'_> {
             return self.text("");
         }
         if is_known(Section::Packet(0).keys(Version::Two), name) {
-            return self.text("a key of a packet stands below a header [[packet]]");
+            return self.text("the keys of a packet go below a header [[packet]]");
         }
         meant_help(self.alloc, name, &["packet"])
     }
@@ -30,13 +30,13 @@ impl Teller<'_> {
     /// Which condition failed of a packet that the flow does not declare.
     fn failed_words(self, flow: u16) -> &'static str {
         if self.is_limited(flow) {
-            return "the flow is limited in its unanswered commands: each of its packets has to be such a command";
+            return "the flow's unanswered commands are limited: each of its packets must be such a command";
         }
         match self.flow(flow) {
             Some(flow) if flow.reply().is_some() => {
-                "its target answers this command, and the reply does not go where the flow's 'reply' says"
+                "its target answers this command, but the reply does not go where the flow's 'reply' says"
             }
-            _ => "its target answers this command, and the flow has no 'reply'",
+            _ => "its target answers this command, but the flow has no 'reply'",
         }
     }
 
@@ -57,7 +57,7 @@ impl Teller<'_> {
                 hint.expected = self.text(
                     "an RMAP command that the target answers, and whose reply goes where the flow's 'reply' says",
                 )?;
-                hint.help = self.text("swcheck rmap writes such a command")?;
+                hint.help = self.text("swcheck rmap prints such a command")?;
                 return Ok(());
             }
         }

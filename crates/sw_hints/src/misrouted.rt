@@ -174,7 +174,7 @@ impl<'a> Misrouted<'a> {
         let end = node_name(network, self.flow.to());
         let change = if self.is_declared() {
             format!(in alloc;
-                "change 'address' so that it leads to {end}, or let 'to' be \"{reached}\""
+                "change 'address' so that it leads to {end}, or write to = \"{reached}\""
             )
         } else {
             format!(in alloc; "change the reply's 'path' so that it leads to {end}")
@@ -189,10 +189,10 @@ impl<'a> Misrouted<'a> {
     fn left_change(self, left: usize) -> Text {
         let alloc = self.teller.alloc;
         if self.is_declared() {
-            return format!(in alloc; "let 'left' be {left}, or change 'address'");
+            return format!(in alloc; "write left = {left}, or change 'address'");
         }
         format!(in alloc;
-            "change the reply's 'path': the initiator alone is to be left, not {left} bytes"
+            "change the reply's 'path' so that only the initiator is left, not {left} bytes"
         )
     }
 

@@ -52,11 +52,11 @@ impl Teller<'_> {
         let (alloc, network) = (self.alloc, self.network);
         match step {
             Step::Move(Move::Fct(channel)) => format!(in alloc;
-                "room for eight characters more at the end of channel {}, and at most 48 that were asked for and did not arrive",
+                "room for eight more characters at the end of channel {}, and at most 48 that were asked for and have not arrived",
                 channel.number()
             ),
             Step::Move(Move::FctIn(channel)) => format!(in alloc;
-                "an FCT for channel {} that was sent and did not arrive: fct sends one",
+                "an FCT for channel {} that was sent and has not arrived: fct sends one",
                 channel.number()
             ),
             Step::Move(Move::Arrive(channel)) => format!(in alloc;
@@ -64,28 +64,28 @@ impl Teller<'_> {
                 channel.number()
             ),
             Step::Move(Move::Grant(output, input)) => format!(in alloc;
-                "an input from channel {} that holds nothing, with a header in front that names channel {}, which no input holds",
+                "an input from channel {} that holds nothing, and a header at the front of its buffer that names channel {}, which no input holds",
                 input.number(),
                 output.number()
             ),
             Step::Move(Move::Drop(channel)) => format!(in alloc;
-                "an input from channel {} that holds nothing, with a byte in front that names no output, or with a packet's end",
+                "an input from channel {} that holds nothing, and at the front of its buffer a packet's end or a byte that names no output",
                 channel.number()
             ),
             Step::Move(Move::Forward(channel)) => format!(in alloc;
-                "an input from channel {} that holds an output, credit for that, and a character in front",
+                "an input from channel {} that holds an output, credit for that output, and a character in the input's buffer",
                 channel.number()
             ),
             Step::Move(Move::Spill(channel)) => format!(in alloc;
-                "an input from channel {} that discards a packet, and a character in front",
+                "an input from channel {} that discards a packet, and a character in its buffer",
                 channel.number()
             ),
             Step::Begin { flow, .. } => format!(in alloc;
-                "a node that sends nothing, with no reply that waits, where flow {} starts",
+                "no packet being sent, and no reply waiting, at the node where flow {} starts",
                 flow_name(network, *flow)
             ),
             Step::Move(Move::Emit(node)) => format!(in alloc;
-                "a character that {} has still to send, and credit for it: fctin brings some",
+                "a character that {} still has to send, and credit for it: fctin brings some",
                 node_name(network, *node)
             ),
             Step::Move(Move::Accept(node)) => format!(in alloc;
@@ -93,7 +93,7 @@ impl Teller<'_> {
                 node_name(network, *node)
             ),
             Step::Move(Move::Reply(node)) => format!(in alloc;
-                "a reply that waits at {}, which sends nothing",
+                "a reply waiting at {}, which is sending nothing",
                 node_name(network, *node)
             ),
         }
@@ -107,7 +107,7 @@ impl Teller<'_> {
         let name = node_name(self.network, flow.to());
         match self.network.limit_at(flow.to()) {
             Some(limit) => format!(in self.alloc;
-                "a reply sent whole by {name}: as many commands to it are unanswered as its limit, {limit}"
+                "a reply that {name} has sent whole: as many commands to it are unanswered as its limit of {limit} allows"
             ),
             None => self.text(""),
         }
@@ -116,9 +116,9 @@ impl Teller<'_> {
     /// What a packet has to be that its flow declares.
     fn to_be_declared(self, flow: u16) -> Text {
         self.text(if self.is_limited(flow) {
-            "an RMAP command that the target answers, and whose reply goes where the flow's 'reply' says, since the flow is limited: swcheck rmap tells its cargo"
+            "an RMAP command that the target answers and whose reply goes where the flow's 'reply' says, as the flow is limited: swcheck rmap prints its cargo"
         } else {
-            "no command that the target would answer, or one whose reply goes where the flow's 'reply' says"
+            "a packet that the target would not answer, or a command whose reply goes where the flow's 'reply' says"
         })
     }
 
@@ -154,9 +154,9 @@ pub fn refused_step_hint(
         None => teller.text(""),
     }?;
     let words = match refusal {
-        StepRefusal::NotEnabled => "is not possible when the steps before it are made",
+        StepRefusal::NotEnabled => "is not possible after the steps before it",
         StepRefusal::NotInFlow => "begins a packet that its flow does not declare",
-        StepRefusal::OverLimit => "begins a command more than may be unanswered",
+        StepRefusal::OverLimit => "begins one more command than may be unanswered",
     };
     let what = format!(in alloc; "step {number} {words}")?;
     Ok(Hint {

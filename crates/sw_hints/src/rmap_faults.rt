@@ -14,29 +14,29 @@ use sw_rmap::TargetConfig;
 fn wrong_words(fault: RmapFault) -> &'static str {
     match fault {
         RmapFault::UnknownFlow => "no declared flow has this name",
-        RmapFault::BadAddress => "the address is no number that a command can carry",
-        RmapFault::BadLength => "the length is no number that a command can carry",
-        RmapFault::BadData => "the data are no bytes that a command can carry",
+        RmapFault::BadAddress => "the address is not a number that a command can carry",
+        RmapFault::BadLength => "the length is not a number that a command can carry",
+        RmapFault::BadData => "the data are not bytes that a command can carry",
         RmapFault::BadTransaction => {
-            "the transaction identifier is no number that a command can carry"
+            "the transaction identifier is not a number that a command can carry"
         }
-        RmapFault::NoTarget => "the flow ends at a node that is no RMAP target",
+        RmapFault::NoTarget => "the flow ends at a node that is not an RMAP target",
         RmapFault::NotAnswered => {
-            "the flow is limited in its unanswered commands, and this one asks for no reply"
+            "the flow's unanswered commands are limited, but this command asks for no reply"
         }
-        RmapFault::NoReply => "the command asks for a reply, and the flow has no 'reply'",
+        RmapFault::NoReply => "the command asks for a reply, but the flow has no 'reply'",
         RmapFault::OutsideWindow => "the target's window does not hold all that is read or written",
         RmapFault::WrongLeft => {
-            "the address bytes that are left are not what the command begins with"
+            "the address bytes left at the target are not what the command begins with"
         }
-        RmapFault::TooLong => "the packet has more bytes behind its address than a load can say",
+        RmapFault::TooLong => "the packet has more bytes after its address than a load allows",
     }
 }
 
 /// What to do about a word that is no number.
 fn number_words(word: &str) -> &'static str {
     if word.starts_with("0X") {
-        "a hexadecimal number begins with a small 0x"
+        "a hexadecimal number begins with a lower-case 0x"
     } else {
         ""
     }
@@ -47,7 +47,7 @@ fn data_words(word: &str) -> &'static str {
     if word.starts_with("0x") {
         "leave out the 0x: each byte is two digits"
     } else if word.contains('*') {
-        "a load may repeat a byte by '*', this command may not: write each byte"
+        "a load may repeat a byte with '*', but this command may not: write each byte"
     } else {
         ""
     }
@@ -170,18 +170,18 @@ impl<'a> Asked<'a> {
             ),
             (fault, _) => self.teller.text(match fault {
                 RmapFault::BadAddress => {
-                    "a number from 0 to 1099511627775, decimal or 0x and hexadecimal digits"
+                    "a number from 0 to 1099511627775, decimal or hexadecimal with 0x"
                 }
                 RmapFault::BadLength => {
-                    "a number from 0 to 16777215, decimal or 0x and hexadecimal digits"
+                    "a number from 0 to 16777215, decimal or hexadecimal with 0x"
                 }
                 RmapFault::BadData => "1 to 4096 bytes as pairs of hexadecimal digits",
                 RmapFault::BadTransaction => {
-                    "a number from 0 to 65535, decimal or 0x and hexadecimal digits"
+                    "a number from 0 to 65535, decimal or hexadecimal with 0x"
                 }
                 RmapFault::NoTarget => "a flow to a node with a 'target'",
                 RmapFault::TooLong => {
-                    "at most 4096 bytes, with the command's header and both checksums"
+                    "at most 4096 bytes, including the command's header and both CRCs"
                 }
                 _ => "",
             }),
@@ -192,7 +192,7 @@ impl<'a> Asked<'a> {
     fn commands_flow(self) -> Text {
         match self.request.flow.strip_suffix("+reply") {
             Some(flow) => format!(in self.teller.alloc;
-                "these are the replies: the commands go by {flow}"
+                "this is the flow of the replies: the commands go by {flow}"
             ),
             None => self.teller.text(""),
         }
@@ -213,7 +213,7 @@ impl<'a> Asked<'a> {
         let alloc = self.teller.alloc;
         match (fault, self.target(), self.request.access) {
             (RmapFault::WrongLeft, Some(target), _) => format!(in alloc;
-                "let 'address' end with {}, and 'left' be 1",
+                "end 'address' with {}, and write left = 1",
                 self.logical(target)?
             ),
             (RmapFault::BadLength, _, Access::Read { length }) => {
@@ -231,10 +231,10 @@ impl<'a> Asked<'a> {
                 RmapFault::NoTarget => "give the node a 'target', or name a flow that ends at one",
                 RmapFault::NotAnswered => "leave out --no-ack",
                 RmapFault::OutsideWindow => {
-                    "take addresses within the window, or make the target's 'size' larger"
+                    "use addresses within the window, or make the target's 'size' larger"
                 }
                 RmapFault::NoReply => self.reply_words(),
-                RmapFault::TooLong => "write fewer bytes by each command",
+                RmapFault::TooLong => "write fewer bytes with each command",
                 _ => "",
             }),
         }

@@ -10,12 +10,12 @@ use sw_faults::{Hint, meant_help};
 /// What is wrong with a word.
 fn wrong_words(wanted: Wanted) -> &'static str {
     match wanted {
-        Wanted::Verb => "no step begins so",
-        Wanted::Channel => "this is no channel of the network",
-        Wanted::Node => "this is no node",
-        Wanted::Flow => "this is no declared flow",
-        Wanted::End => "this is no end marker",
-        Wanted::Cargo => "this is no cargo",
+        Wanted::Verb => "no step begins like this",
+        Wanted::Channel => "this is not a channel of the network",
+        Wanted::Node => "this is not a node",
+        Wanted::Flow => "this is not a declared flow",
+        Wanted::End => "this is not an end marker",
+        Wanted::Cargo => "this is not cargo",
         Wanted::Nothing => "this is one word too many",
     }
 }
@@ -28,7 +28,7 @@ impl Teller<'_> {
         };
         match wanted {
             Wanted::Verb => format!(in self.alloc;
-                "one of {}, or a count from 1 to 100000 before it",
+                "one of {}, alone or after a count from 1 to 100000",
                 VERBS.join(self.alloc, ", ")?
             ),
             Wanted::Channel => format!(in self.alloc;
@@ -41,7 +41,9 @@ impl Teller<'_> {
             Wanted::Cargo => self.text(
                 "1 to 4096 bytes: pairs of hexadecimal digits, or one pair, '*' and a number from 1 to 4096, without spaces",
             ),
-            Wanted::Nothing => self.text("the end of the line; one space stands between two words"),
+            Wanted::Nothing => self.text(
+                "the end of the line; there is one space between two words",
+            ),
         }
     }
 

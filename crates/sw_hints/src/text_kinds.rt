@@ -43,7 +43,7 @@ impl TextKind {
             TextKind::Network => self.call(),
             given => given.call(),
         };
-        format!(in alloc; "this is a {name}: it stands {place} in {call}")
+        format!(in alloc; "this is a {name}: it comes {place} in {call}")
     }
 }
 

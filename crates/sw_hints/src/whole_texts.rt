@@ -23,7 +23,7 @@ pub fn long_text_hint(alloc: Global) -> Result<Hint, AllocError> {
 /// There is no memory for the hint.
 pub fn unmigrated_hint(alloc: Global) -> Result<Hint, AllocError> {
     let text = |words: &str| String::from_str(alloc, words);
-    let what = text("this file is not migrated")?;
+    let what = text("this file can't be migrated")?;
     Ok(Hint {
         expected: format!(in alloc; "a network file of version 1, of at most {MAX_TEXT} bytes")?,
         help: text("a file of version 2 or 3 needs no change")?,

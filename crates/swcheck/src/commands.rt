@@ -39,7 +39,7 @@ use sw_text::Ended;
 use sw_text::statuses::FAULTY;
 
 /// What is told of words of `rmap` that ask for no command.
-const NO_ACCESS: &str = "ACTION is read or write, and --no-ack goes with write alone";
+const NO_ACCESS: &str = "ACTION must be read or write, and --no-ack goes only with write";
 
 // ---- commands with one network file
 
@@ -303,7 +303,7 @@ fn call_run<'a, R: Files + Eprint + AllocGlobal + Threads + Wait + Sync, F: File
     requires { 0 < job.now.workers }
 {
     if is_schedule_read(rt, job) {
-        return CallEnd::from_ended(tell_refused(rt, "--schedule names a file that is read"));
+        return CallEnd::from_ended(tell_refused(rt, "--schedule names a file that the run reads"));
     }
     let alloc = rt.alloc();
     let end = run_load(rt, files, job, writer);

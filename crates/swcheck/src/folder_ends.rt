@@ -9,7 +9,7 @@ use sw_text::Ended;
 
 /// The hint of a folder that takes no certificates, for this reason.
 fn folder_hint(alloc: Global, reason: &str) -> Result<Hint, AllocError> {
-    let what = format!(in alloc; "{reason}; no certificate is kept")?;
+    let what = format!(in alloc; "{reason}; no certificate is written")?;
     Ok(Hint::new(alloc, what))
 }
 

@@ -28,7 +28,7 @@ fn most_of(wanted: Notes) -> usize {
 fn add_untold(untold: usize, lines: &mut String) -> Result<(), AllocError> {
     match untold {
         0 => Ok(()),
-        count => write!(lines, "note: and {count} more; --notes all tells them\n"),
+        count => write!(lines, "note: and {count} more; --notes all shows them\n"),
     }
 }
 

@@ -57,7 +57,7 @@ fn add_line(
     let channels = texts.join(alloc, ", ")?;
     write!(
         lines,
-        "note: another cycle, without a cause in common: {channels}\n"
+        "note: another cycle, with no cause in common with the others: {channels}\n"
     )
 }
 

@@ -13,7 +13,7 @@ fn reason_of(kind: ErrorKind) -> &'static str {
         ErrorKind::NotFound => "no such file",
         ErrorKind::PermissionDenied => "permission denied",
         ErrorKind::IsADirectory => "is a directory",
-        ErrorKind::NotADirectory => "a part of the path is no directory",
+        ErrorKind::NotADirectory => "a part of the path is not a directory",
         ErrorKind::InvalidFilename => "the name is too long",
         ErrorKind::InvalidInput => "no file can have this name",
         ErrorKind::FilesystemLoop => "too many symbolic links",
@@ -48,14 +48,14 @@ fn reason_of(kind: ErrorKind) -> &'static str {
         | ErrorKind::UnexpectedEof
         | ErrorKind::InProgress
         | ErrorKind::Other
-        | ErrorKind::Uncategorized => "the system gives an error of its own",
+        | ErrorKind::Uncategorized => "the system reports some other error",
     }
 }
 
 /// The reason why what goes by this name can't be read or written.
 fn reason_for(path: &str, kind: ErrorKind) -> &'static str {
     match kind {
-        ErrorKind::NotFound if path == "-" => { "no such file; /dev/stdin is the standard input" }
+        ErrorKind::NotFound if path == "-" => { "no such file; for standard input use /dev/stdin" }
         ErrorKind::Other | ErrorKind::Uncategorized if path == STANDARD_OUTPUT => {
             "can't be written; it may be closed"
         }
@@ -67,7 +67,7 @@ fn reason_for(path: &str, kind: ErrorKind) -> &'static str {
 pub(crate) fn folder_fault<R: Files>(rt: &R, path: &str) -> Option<&'static str> {
     match fs::metadata(rt, path) {
         Ok(known) if known.is_dir() => None,
-        Ok(_) => Some("is no directory"),
+        Ok(_) => Some("is not a directory"),
         Err(error) => match error.kind() {
             ErrorKind::NotFound => Some("no such directory"),
             kind => Some(reason_of(kind)),
