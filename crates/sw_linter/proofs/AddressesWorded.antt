@@ -1,16 +1,16 @@
 -- What is told of addresses, in words.
-use Rattle.std.proofs.Common.{◌≡◌, ◌≢◌, ℕ, zero, suc, ◌+◌, ◌-◌, ◌<◌, ◌≤◌, Bool, true, false, not, ◌&&◌, ◌||◌, List, [], ◌∷◌, ◌++◌, Contains, Option, Some, None, refl, sym, ap, subst, ◌∙◌, ◌⊎◌, inl, inr, arith, length, eq-eqb}
+use Rattle.std.proofs.Common.{◌≡◌, ◌≢◌, ℕ, zero, suc, ◌-◌, ◌<◌, ◌≤◌, Bool, true, false, not, ◌&&◌, ◌||◌, List, [], ◌∷◌, ◌++◌, Contains, Option, Some, None, refl, sym, ap, subst, ◌∙◌, ◌⊎◌, inl, inr, arith, length, eq-eqb}
 use Rattle.std.specs.Prelude.{◌↔◌, ◌==◌, filter_map, is_some, option_and_then, option_map, slice_get, if◌then◌else◌}
 use Rattle.std.specs.List.{list_any, range_with_len}
 use Rattle.std.specs.Option.{option_to_list}
-use Rattle.std.proofs.lemmas.Bool.{and_from, and_parts, eqb-true, false≢true, ne_eqb, not-true, or_cases, or_from, or_left, or_parts, or_right}
+use Rattle.std.proofs.lemmas.Bool.{and_from, and_parts, eqb-true, false≢true, ne_eqb, not-true, or_from, or_parts}
 use Rattle.std.proofs.lemmas.Option.{none-some}
 use Rattle.sw_rmap.specs.declared.config.TargetConfig.{TargetConfig}
 use Rattle.sw_config.specs.Entries.{Declaration, FlowEntry, ReplyEntry, target_of}
 use Rattle.sw_flow.proofs.Listed.{Contains-cases, Contains-head, Contains-later}
 use Rattle.sw_linter.specs.declared.lint.Lint.{Lint}
 use Rattle.sw_linter.specs.declared.lint.Lint.TheVariants.{TwoInitiators, WrongInitiator, WrongTarget}
-use Rattle.sw_linter.specs.AddressWords.{AddressesAreToldInWords, AnswersAnother, ComesToAnother, ComesWith, DifferInReplies, IsKnownAt, IsSentTo, IsTargetWith}
+use Rattle.sw_linter.specs.AddressWords.{AddressesAreToldInWords, AnswersAnother, ComesToAnother, ComesWith, DifferInReplies, IsKnownAt}
 use Rattle.sw_linter.specs.Lints.{address_to, differing, first_made, is_none_of, is_stranger, known_addresses, left_byte, other_initiator, two_initiators, wrong_at, wrong_initiator, wrong_target}
 use Rattle.sw_linter.proofs.Keys.{from_range, in_range}
 use Rattle.sw_linter.proofs.Tests.{any_passes, passing}
@@ -103,16 +103,17 @@ targets d i f address logical = (to, from)
 
 from_made : {A B : Type 0} (make : A → Option B) (xs : List A) (b : B) → Contains (filter_map make xs) b → (x : A) × Contains xs x × (make x ≡ Some b)
 from_made make [] b (k, lt, e) = absurd (omega (arith, lt))
-from_made {A} {B} make (x ∷ xs) b h = by (make x) refl h
+from_made {A} {B} make (x ∷ xs) b h = by (make x) refl h (from_made make xs b)
   where
     later : (y : A) × Contains xs y × (make y ≡ Some b) → (y : A) × Contains (x ∷ xs) y × (make y ≡ Some b)
     later (y, there, is) = (y, Contains-later x y xs there, is)
 
-    by : (o : Option B) → make x ≡ o → Contains (filter_map make (x ∷ xs)) b → (y : A) × Contains (x ∷ xs) y × (make y ≡ Some b)
-    by None is h = later (from_made make xs b (rw is at h))
-    by (Some y) is h = elim (Contains-cases y b (filter_map make xs) (rw is at h)) [
+    by : (o : Option B) → make x ≡ o → Contains (filter_map make (x ∷ xs)) b → (Contains (filter_map make xs) b → (y : A) × Contains xs y × (make y ≡ Some b))
+        → (y : A) × Contains (x ∷ xs) y × (make y ≡ Some b)
+    by None is h on = later (on (rw is at h))
+    by (Some y) is h on = elim (Contains-cases y b (filter_map make xs) (rw is at h)) [
       | inl same ↦ (x, Contains-head x xs, is ∙ ap Some same)
-      | inr there ↦ later (from_made make xs b there)
+      | inr there ↦ later (on there)
     ]
 
 to_made : {A B : Type 0} (make : A → Option B) (xs : List A) (x : A) (b : B) → Contains xs x → make x ≡ Some b → Contains (filter_map make xs) b
@@ -160,7 +161,7 @@ at_back [] ys x h = h
 at_back (y ∷ xs) ys x h = Contains-later y x (xs ++ ys) (at_back xs ys x h)
 
 module _ (d : Declaration) (n : ℕ) where
-  of_target : List ℕ
+  abbrev of_target : List ℕ
   of_target = option_to_list (option_map (λ target. target.logical) (target_of d.nodes n))
 
   as_target : (o : Option TargetConfig) (address : ℕ) → Contains (option_to_list (option_map (λ target. target.logical) o)) address
@@ -296,13 +297,13 @@ pairs d i f = (to, from)
         let r = reply.0 in
         let at = passing (λ j. is_some (differing d i f r.initiator j)) (range_with_len 0 i)
         (sym (some_made (differing d i f r.initiator) (range_with_len 0 i)) ∙ is_there (made r) lint.0 reply.2) in
-        (at.element, (from_range 0 i at.element at.listed).1, one_differs d i f r at.element reply.1 at.passes)
+        (at.element, omega (arith, (from_range 0 i at.element at.listed).1), one_differs d i f r at.element reply.1 at.passes)
 
     from : (j : ℕ) × (j < i) × DifferInReplies d f j → is_some (two_initiators d i f) ≡ true
     from (j, earlier, c) =
         ap (λ (o : Option ReplyEntry). is_some (option_and_then made o)) c.replied
         ∙ some_made (differing d i f c.reply.initiator) (range_with_len 0 i)
-        ∙ any_passes (λ k. is_some (differing d i f c.reply.initiator k)) (range_with_len 0 i) j (in_range 0 i j (omega arith) earlier) (differs_one d i f j c)
+        ∙ any_passes (λ k. is_some (differing d i f c.reply.initiator k)) (range_with_len 0 i) j (in_range 0 i j (omega arith) (omega (arith, earlier))) (differs_one d i f j c)
 
 pub addresses_in_words : AddressesAreToldInWords
 addresses_in_words d i f = record { targets = targets d i f; initiators = initiators d i f; pairs = pairs d i f }
