@@ -132,20 +132,20 @@ marks_append a (m ∷ ms) b =
     let same : a + 1 + length ms ≡ a + suc (length ms) = omega arith in
     ap (λ rest. (a, m) ∷ rest) (marks_append (a + 1) ms b ∙ ap (λ n. enumerate_from (a + 1) ms ++ (n, b) ∷ []) same)
 
-filter_append : (xs ys : List (ℕ × Bool)) → filter (λ e. e.1) (xs ++ ys) ≡ filter (λ e. e.1) xs ++ filter (λ e. e.1) ys
+filter_append : (xs ys : List (ℕ × Bool)) → filter (λ (e : ℕ × Bool). e.1) (xs ++ ys) ≡ filter (λ (e : ℕ × Bool). e.1) xs ++ filter (λ (e : ℕ × Bool). e.1) ys
 filter_append [] ys = refl
 filter_append ((n, true) ∷ xs) ys = ap (λ rest. (n, true) ∷ rest) (filter_append xs ys)
 filter_append ((n, false) ∷ xs) ys = filter_append xs ys
 
-map_append : (xs ys : List (ℕ × Bool)) → map (λ e. e.0) (xs ++ ys) ≡ map (λ e. e.0) xs ++ map (λ e. e.0) ys
+map_append : (xs ys : List (ℕ × Bool)) → map (λ (e : ℕ × Bool). e.0) (xs ++ ys) ≡ map (λ (e : ℕ × Bool). e.0) xs ++ map (λ (e : ℕ × Bool). e.0) ys
 map_append [] ys = refl
 map_append (x ∷ xs) ys = ap (λ rest. x.0 ∷ rest) (map_append xs ys)
 
-numbers_push : (marks : List Bool) (b : Bool) → numbers_of (marks ++ b ∷ []) ≡ numbers_of marks ++ map (λ e. e.0) (filter (λ e. e.1) ((1 + length marks, b) ∷ []))
+numbers_push : (marks : List Bool) (b : Bool) → numbers_of (marks ++ b ∷ []) ≡ numbers_of marks ++ map (λ (e : ℕ × Bool). e.0) (filter (λ (e : ℕ × Bool). e.1) ((1 + length marks, b) ∷ []))
 numbers_push marks b =
     ap (λ them. map (λ (e : ℕ × Bool). e.0) (filter (λ (e : ℕ × Bool). e.1) them)) (marks_append 1 marks b)
     ∙ ap (map (λ (e : ℕ × Bool). e.0)) (filter_append (enumerate_from 1 marks) ((1 + length marks, b) ∷ []))
-    ∙ map_append (filter (λ e. e.1) (enumerate_from 1 marks)) (filter (λ e. e.1) ((1 + length marks, b) ∷ []))
+    ∙ map_append (filter (λ (e : ℕ × Bool). e.1) (enumerate_from 1 marks)) (filter (λ (e : ℕ × Bool). e.1) ((1 + length marks, b) ∷ []))
 
 marks_push : (all : List Judged) (i : ℕ) (j : Judged) → i < length all → j ≡ get_or all i j
     → map (λ (j : Judged). j.flowless) (take (i + 1) all) ≡ map (λ (j : Judged). j.flowless) (take i all) ++ j.flowless ∷ []
@@ -157,7 +157,7 @@ first_marks all i le = length-map (take i all) (λ (j : Judged). j.flowless) ∙
 -- one file more
 pub one_marked : (all : List Judged) (i : ℕ) (j : Judged) (mark : Bool) (before : List ℕ) → i < length all → j ≡ get_or all i j → j.flowless ≡ mark
     → before ≡ numbers_of (map (λ (j : Judged). j.flowless) (take i all))
-    → before ++ map (λ e. e.0) (filter (λ e. e.1) ((i + 1, mark) ∷ [])) ≡ numbers_of (map (λ (j : Judged). j.flowless) (take (i + 1) all))
+    → before ++ map (λ (e : ℕ × Bool). e.0) (filter (λ (e : ℕ × Bool). e.1) ((i + 1, mark) ∷ [])) ≡ numbers_of (map (λ (j : Judged). j.flowless) (take (i + 1) all))
 one_marked all i j mark before lt at is so_far =
     let marks = map (λ (j : Judged). j.flowless) (take i all) in
     let number : i + 1 ≡ 1 + length marks = omega (arith, first_marks all i (omega arith)) in

@@ -1,6 +1,7 @@
 mod Plain
 mod CheckFound
 mod ReportFound
+mod NoteTexts
 mod OneAnswer
 mod StatusesOfTexts
 mod JudgedFiles

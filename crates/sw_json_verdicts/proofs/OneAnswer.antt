@@ -20,6 +20,7 @@ use Rattle.sw_config.specs.Entries.{Declaration}
 use Rattle.sw_search.specs.Findings.{AreFindings}
 use Rattle.sw_search.specs.declared.verdict.Findings.{Findings}
 use Rattle.sw_json.specs.Answering.{read_value}
+use Rattle.sw_json.specs.Simple.{texts_value}
 use Rattle.sw_circles.specs.Circlings.{IsCirclingOf}
 use Rattle.sw_circles.proofs.Lawful.{one_told}
 use Rattle.sw_linter.specs.CirclingTexts.{IsCirclingText, circling_text}
@@ -36,8 +37,8 @@ use Rattle.sw_json.proofs.OneVerdict.{one_verdict_value}
 -- ---- `route`
 
 -- the note on a flow is determined
-same_note : (d : Declaration) (flow other : ℕ) (note told : Option (List ℕ)) → flow ≡ other → IsCirclingText d flow note → IsCirclingText d other told → note ≡ told
-same_note d flow other note told same (c, is, text) (e, also, words) =
+same_note : (d : Declaration) (flow other : ℕ) (text told : Option (List ℕ)) → flow ≡ other → IsCirclingText d flow text → IsCirclingText d other told → text ≡ told
+same_note d flow other _ told same (c, is, text) (e, also, words) =
     text ∙ ap (option_map (circling_text d)) (one_told d other c e (subst (λ n. IsCirclingOf d n c) same is) also) ∙ sym words
 
 same_result : (path : List ℕ) (d : Declaration) (x y : RouteFinding) → SayTheSame x y → (value said : Data) (status number : ℕ)
@@ -96,7 +97,7 @@ same_report d lint told f g noted also h k =
     let places = places_once d f.places g.places h.places k.places in
     let dependencies = dependencies_once d f.dependencies g.dependencies h.dependencies k.dependencies in
     let verdict = one_verdict_value d f.verdict g.verdict h.verdict k.verdict in
-    (λ i. report_value d (notes i) (places i) (dependencies i) (verdict i))
+    (λ i. report_value d (texts_value (notes i)) (places i) (dependencies i) (verdict i))
 
 pub report_has_one_answer : ReportHasOneAnswer
 report_has_one_answer path release given =

@@ -4,7 +4,7 @@ use Rattle.sw_app.specs.ShownDeadlockFree.{AreShownDeadlockFree}
 use Rattle.sw_engine.specs.Paths.{PathTexts}
 use Rattle.sw_json.specs.VerdictValues.{certificate_bytes}
 use Rattle.sw_json_verdicts.proofs.Zeros.{ShownLaws, zero_is_free}
-use Rattle.sw_json_verdicts.specs.AuditLaws.{IsPathFree, ZeroIsFreeOfPaths}
+use Rattle.sw_json_verdicts.specs.AuditLaws.{ZeroIsFreeOfPaths}
 use Rattle.sw_json_verdicts.specs.Stores.{gives_of_paths, keeps_in}
 use Rattle.sw_search.specs.declared.verdict.Verdict.TheVariants.{Free}
 

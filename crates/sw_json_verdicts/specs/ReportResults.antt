@@ -14,14 +14,14 @@ use Rattle.sw_search.specs.declared.verdict.Findings.{Findings}
 
 -- How many parts of each kind the network has, what there is to note of it, how many places and dependencies, and the verdict; `flows` are
 -- the declared ones, `replies` those of replies.
-abbrev pub report_value : Declaration → List (List ℕ) → ℕ → ℕ → Data → Data
+abbrev pub report_value : Declaration → Data → ℕ → ℕ → Data → Data
 report_value d lint places dependencies verdict =
     object (member (codes "channels") (count_value (length (wiring_of d).ends))
     (member (codes "dependencies") (count_value dependencies)
     (member (codes "flows") (count_value (length d.flows))
     (member (codes "kind") (string (codes "report"))
     (member (codes "links") (count_value (length d.links))
-    (member (codes "lint") (texts_value lint)
+    (member (codes "lint") lint
     (member (codes "nodes") (count_value (length d.nodes))
     (member (codes "places") (count_value places)
     (member (codes "replies") (count_value (length (all_flows d) - length d.flows))
@@ -29,7 +29,7 @@ report_value d lint places dependencies verdict =
     (member (codes "verdict") verdict no_members)))))))))))
 
 abbrev pub found_value : Declaration → List (List ℕ) → Findings → Data
-found_value d lint f = report_value d lint f.places f.dependencies (verdict_value d f.verdict)
+found_value d lint f = report_value d (texts_value lint) f.places f.dependencies (verdict_value d f.verdict)
 
 -- what was found of a network, with all that there is to note of it, and status 0 whatever the verdict
 abbrev pub report_results : Declaration → Findings → Results

@@ -1,8 +1,10 @@
 //! What `report` finds, as a value of JSON.
-ghost use Rattle.std.specs.Prelude.{◌≡◌, IfOk, map, string_bytes};
+ghost use Rattle.std.specs.Prelude.{◌≡◌, ℕ, IfOk, List};
 ghost use Rattle.serde_json.specs.View.{view};
 ghost use Rattle.sw_json.specs.VerdictValues.{certificate_bytes};
 ghost use Rattle.sw_search.specs.Verdicts.{IsVerdict};
+ghost use Rattle.sw_json.specs.Simple.{texts_value};
+ghost use Rattle.sw_linter.specs.LintTexts.{AreLintTexts};
 ghost use Rattle.sw_json_verdicts.specs.ReportResults.{report_results, report_value};
 
 use crate::laws::reports_are_plain;
@@ -23,26 +25,33 @@ fn certificate_text(alloc: Global, verdict: &Verdict) -> Result<Vec<u8>, AllocEr
     }
 }
 
+/// What there is to note of a network.
+fn lint_value(alloc: Global, network: &Network) -> Result<Value, AllocError>
+    ensures { IfOk result (λ v. (lint : List (List ℕ)) × AreLintTexts network.now lint × (view v ≡ texts_value lint)) }
+{
+    let lint = lint_texts(alloc, network)?;
+    Ok(Value::Array(text_values(alloc, &lint)?))
+}
+
 /// How many parts the network has, with what there is to note of it and its verdict.
 fn told_report(
     alloc: Global,
     network: &Network,
-    lint: &[String],
+    lint: Value,
     findings: &Findings,
     verdict: Value,
 ) -> Result<Value, AllocError>
-    ensures { IfOk result (λ v. view v ≡ report_value network.now (map string_bytes lint.now) findings.now.places findings.now.dependencies (view verdict)) }
+    ensures { IfOk result (λ v. view v ≡ report_value network.now (view lint) findings.now.places findings.now.dependencies (view verdict)) }
 {
     let declared = network.declared_flows();
     let replies = network.flows() - declared;
-    let lint = text_values(alloc, lint)?;
     let members = vec![in alloc;
         ("channels", Member::Number(u64::from(network.channels()))),
         ("dependencies", Member::Number(findings.dependencies)),
         ("flows", Member::Number(u64::from(declared))),
         ("kind", Member::Text("report")),
         ("links", Member::Number(u64::from(network.links()))),
-        ("lint", Member::Value(Value::Array(lint))),
+        ("lint", Member::Value(lint)),
         ("nodes", Member::Number(u64::from(network.nodes()))),
         ("places", Member::Number(findings.places)),
         ("replies", Member::Number(u64::from(replies))),
@@ -68,8 +77,8 @@ pub(crate) fn report_outcome(
     reports_are_plain();
     let text = certificate_text(alloc, &findings.verdict)?;
     let verdict = verdict_value(alloc, network, &findings.verdict, &text)?;
-    let lint = lint_texts(alloc, network)?;
-    let result = told_report(alloc, network, &lint, findings, verdict)?;
+    let lint = lint_value(alloc, network)?;
+    let result = told_report(alloc, network, lint, findings, verdict)?;
     Ok(CommandOutcome {
         result,
         status: GOOD,

@@ -34,7 +34,7 @@ returns g c =
     ∙ is_worst options gives keeps paths c.args.all.items c.requires in
     let are = are_findings options gives keeps paths c.args.all.items c.requires in
     let numbers =
-    c.in_ok-without_flows.ensures ∙ ap (λ (all : List Judged). numbers_of (map (λ (j : Judged). j.flowless) all)) c.deref-numbers_without_flows.ensures.value
+    c.in_ok-without_flows.ensures ∙ ap (λ (all : List Judged). numbers_of (map (λ (j : Judged). j.flowless) all)) c.deref-2.ensures.value
     ∙ are_numbered options gives keeps paths c.args.all.items c.requires in
     record {
       of_all = (findings_of paths c.args.all.items, are, (c.in_ok-text.ensures, worst), numbers);

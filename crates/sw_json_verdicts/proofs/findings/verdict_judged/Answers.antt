@@ -11,7 +11,7 @@ returns-then-not-options g c = (
     status = c.in_ok-status.ensures;
     word = c.verdict_word-word.ensures;
     object = λ told. absurd (false≢true (sym c.if-not-options.true ∙ told));
-    flowless = ap (λ n. n == 0) c.declared_flows.ensures.count;
+    flowless = ap (λ n. n == 0) c.declared_flows-flowless.ensures.count;
   },
   refl,
 )
@@ -24,7 +24,7 @@ returns g c = (
     status = c.in_ok-status.ensures;
     word = c.verdict_word-word.ensures;
     object = λ told. c.in_ok-entry.ensures;
-    flowless = ap (λ n. n == 0) c.declared_flows.ensures.count;
+    flowless = ap (λ n. n == 0) c.declared_flows-flowless.ensures.count;
   },
   refl,
 )

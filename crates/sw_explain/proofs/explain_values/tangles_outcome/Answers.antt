@@ -1,0 +1,12 @@
+use Rattle.std.proofs.Common.{arith, map, string_bytes}
+use Rattle.sw_json.proofs.PlainAnswers.{flat_of, whole_of}
+use Rattle.sw_explain.proofs.explain_values.tangles_outcome.Goals as goal
+
+pub invariant_of-result : goal.invariant_of-result
+invariant_of-result c =
+    let is = c.in_ok-result.ensures in
+    let plain = c.explanations_are_plain.ensures.tangled c.args.network.now (map string_bytes c.deref.result.now) c.args.tangles.now in
+    record {
+      whole = whole_of 6 _ _ is plain;
+      flat = flat_of 6 _ _ (omega arith) is plain;
+    }
