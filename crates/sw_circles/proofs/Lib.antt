@@ -3,6 +3,6 @@ mod Told
 mod Numbers
 mod Found
 pub mod OneList
-mod RisingNumbers
+mod NoComponents
 pub mod Lawful
 mod Listed

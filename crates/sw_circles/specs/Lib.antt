@@ -1,4 +1,3 @@
 pub mod Circles
 pub mod Circlings
 pub mod Laws
-pub mod Rising

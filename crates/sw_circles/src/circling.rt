@@ -3,13 +3,16 @@ ghost use Rattle.std.specs.Prelude.{◌≡◌, ◌++◌, ◌≤◌, ◌<◌, IfO
 ghost use Rattle.sw_config.specs.Entries.{all_flows};
 ghost use Rattle.sw_config.specs.Valid.{IsFlow};
 ghost use Rattle.sw_flow.specs.Places.{IsPlaceList};
+ghost use Rattle.sw_graph.specs.Components.{AreComponents};
+ghost use Rattle.sw_graph.specs.Rows.{IsGraph, Leads};
 ghost use Rattle.sw_circles.specs.Circles.{AreCircles, AreCirclesOf, arrives, channel_at, channels_at, is_end, with_deleted};
 
-use crate::rising::components_of;
 use crate::rows::{rows_of, with_deleted};
 use std::alloc::{AllocError, Global};
 use sw_config::PlaceEnd;
 use sw_flow::{Chan, Flow, Network, Place};
+use sw_graph::{Component, OneByOne, components};
+use sw_margin::has_no_cycle_with;
 
 /// The channel of the place of that number.
 fn channel_at(places: &[Place], number: u16) -> Option<Chan>
@@ -32,6 +35,18 @@ fn channels_at(alloc: Global, places: &[Place], numbers: &[u16]) -> Result<Vec<C
         }
     }
     Ok(channels)
+}
+
+/// The components of the relation, as `sw_graph::components` gives them, which takes longer: where the relation has no cycle, none are looked for.
+fn components_of(alloc: Global, rows: &[Vec<u16>]) -> Result<Vec<Component>, AllocError>
+    requires few { length rows.now ≤ 65535 }
+    requires graph { IsGraph rows.now }
+    ensures { IfOk result (λ v. AreComponents (Leads rows.now) v.items) }
+{
+    if has_no_cycle_with(&OneByOne, alloc, rows, &[], &[])? {
+        return Ok(Vec::new(alloc));
+    }
+    components(alloc, rows)
 }
 
 /// Adds the circles of these places of the flow, all with as many address bytes deleted.

@@ -4,7 +4,6 @@
 mod circling;
 pub mod laws;
 mod of_network;
-mod rising;
 mod rows;
 
 pub use circling::{arrives, circles};

@@ -12,3 +12,4 @@ mod Exact
 mod Stalled
 mod Tellings
 mod Answerable
+mod RisingNumbers

@@ -9,6 +9,7 @@ use Rattle.sw_graph.specs.Levels.{HasCycle}
 use Rattle.sw_graph.specs.Rows.{IsGraph, Leads, row}
 use Rattle.sw_graph.proofs.Listed.{lead_inside, row_read}
 use Rattle.sw_graph.proofs.Transfers.{cycle_map}
+use Rattle.sw_margin.specs.Rising.{LeadsWith}
 use Rattle.sw_margin.specs.Waits.{AreDependencies, AreWith, IsWithin, StaysFree, WaitsWith}
 use Rattle.sw_topo.proofs.Lists.{none_in}
 
@@ -60,9 +61,16 @@ with_graph g h more ok within w k v lt =
     ] in
     subst P at (λ i d li. inside (get_or (row h k) i d) ((w.each k (get_or (row h k) i d)).0 (All-contains_itself (row h k) i d li)))
 
--- the rows have no cycle exactly where the network stays free
-pub free_with : (d : Declaration) (g h : List (Vec ℕ Global)) (more : List (ℕ × ℕ)) → AreDependencies d g → AreWith g more h → ((HasCycle (Leads h) → ⊥) ↔ StaysFree d more)
-free_with d g h more are w = (
-  λ none cycle. none (cycle_map (WaitsWith d more) (Leads h) (λ c e x. (w.each c e).1 (elim x [ inl k ↦ inl ((are.exact c e).1 k) | inr m ↦ inr m ])) cycle),
-  λ stays cycle. stays (cycle_map (Leads h) (WaitsWith d more) (λ c e x. elim ((w.each c e).0 x) [ inl k ↦ inl ((are.exact c e).0 k) | inr m ↦ inr m ]) cycle),
+-- the rows with the further waits have no cycle exactly where the rows and these waits have none
+pub rows_with : (g h : List (Vec ℕ Global)) (more : List (ℕ × ℕ)) → AreWith g more h → ((HasCycle (Leads h) → ⊥) ↔ (HasCycle (LeadsWith g more) → ⊥))
+rows_with g h more w = (
+  λ none cycle. none (cycle_map (LeadsWith g more) (Leads h) (λ c e. (w.each c e).1) cycle),
+  λ none cycle. none (cycle_map (Leads h) (LeadsWith g more) (λ c e. (w.each c e).0) cycle),
+)
+
+-- the rows and the further waits have no cycle exactly where the network stays free
+pub free_with : (d : Declaration) (g : List (Vec ℕ Global)) (more : List (ℕ × ℕ)) → AreDependencies d g → ((HasCycle (LeadsWith g more) → ⊥) ↔ StaysFree d more)
+free_with d g more are = (
+  λ none cycle. none (cycle_map (WaitsWith d more) (LeadsWith g more) (λ c e x. elim x [ inl k ↦ inl ((are.exact c e).1 k) | inr m ↦ inr m ]) cycle),
+  λ stays cycle. stays (cycle_map (LeadsWith g more) (WaitsWith d more) (λ c e x. elim x [ inl k ↦ inl ((are.exact c e).0 k) | inr m ↦ inr m ]) cycle),
 )

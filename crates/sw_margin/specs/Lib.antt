@@ -5,4 +5,5 @@ pub mod Answers
 pub mod FlowLimits
 pub mod Losses
 pub mod Needs
+pub mod Rising
 pub mod Laws

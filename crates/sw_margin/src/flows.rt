@@ -5,18 +5,20 @@ ghost use Rattle.sw_margin.specs.Waits.{AreDependencies};
 
 use crate::bend::Bend;
 use crate::chosen::is_answerable;
+use crate::search::numbers_along;
 use crate::trial::bend;
 use crate::way::waits_where_answered;
 use std::alloc::{AllocError, Global};
 use sw_config::Network;
 use sw_search::VerdictWorkers;
 
-/// What is told of the flow of that number.
+/// What is told of the flow of that number. `known` has numbers that rise along the rows, or is empty.
 fn told_of<W: VerdictWorkers>(
     workers: &W,
     alloc: Global,
     network: &Network,
     rows: &[Vec<u16>],
+    known: &[u16],
     flow: u16,
 ) -> Result<Bend, AllocError>
     requires rows { AreDependencies network.now rows.now }
@@ -24,7 +26,7 @@ fn told_of<W: VerdictWorkers>(
     ensures { IfOk result (IsAnswer network.now flow) }
 {
     let waits = waits_where_answered(alloc, network, network.flow(flow))?;
-    bend(workers, alloc, network, rows, flow, &waits)
+    bend(workers, alloc, network, rows, known, flow, &waits)
 }
 
 /// Of each flow without a reply that goes one way, with no group on it: whether the network stays free if the flow is answered, the
@@ -45,12 +47,15 @@ pub fn answers<W: VerdictWorkers>(
     requires { AreDependencies network.now rows.now }
     ensures { IfOk result (λ v. AreAnswers network.now v.items) }
 {
+    // There are at most 2,048.
+    let _channels = network.channels();
+    let known = numbers_along(alloc, rows)?;
     let mut told = Vec::new(alloc);
     for flow in 0..network.declared_flows() {
         if !is_answerable(network, flow) {
             continue;
         }
-        told.push(told_of(workers, alloc, network, rows, flow)?)?;
+        told.push(told_of(workers, alloc, network, rows, &known, flow)?)?;
     }
     Ok(told)
 }

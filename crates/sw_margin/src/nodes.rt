@@ -5,6 +5,7 @@ ghost use Rattle.sw_margin.specs.Bends.{AreStalls, IsStall, stall};
 ghost use Rattle.sw_margin.specs.Waits.{AreDependencies, IsWithin};
 
 use crate::bend::Bend;
+use crate::search::numbers_along;
 use crate::trial::bend;
 use std::alloc::{AllocError, Global};
 use sw_config::Network;
@@ -20,19 +21,28 @@ pub(crate) fn stall(network: &Network, node: u16) -> (u16, u16)
     (out.partner().number(), out.number())
 }
 
-/// What is told of the node of that number.
+/// What is told of the node of that number. `known` has numbers that rise along the rows, or is empty.
 fn told_of<W: VerdictWorkers>(
     workers: &W,
     alloc: Global,
     network: &Network,
     rows: &[Vec<u16>],
+    known: &[u16],
     node: u16,
 ) -> Result<Bend, AllocError>
     requires rows { AreDependencies network.now rows.now }
     requires node { node < length network.now.nodes }
     ensures { IfOk result (IsStall network.now node) }
 {
-    bend(workers, alloc, network, rows, node, &[stall(network, node)])
+    bend(
+        workers,
+        alloc,
+        network,
+        rows,
+        known,
+        node,
+        &[stall(network, node)],
+    )
 }
 
 /// Of each node where nothing that comes may have to wait for a reply: whether the network stays free if the node takes nothing while it
@@ -53,12 +63,15 @@ pub fn stalls<W: VerdictWorkers>(
     requires { AreDependencies network.now rows.now }
     ensures { IfOk result (λ v. AreStalls network.now v.items) }
 {
+    // There are at most 2,048.
+    let _channels = network.channels();
+    let known = numbers_along(alloc, rows)?;
     let mut told = Vec::new(alloc);
     for node in 0..network.nodes() {
         if network.may_make_wait(node) {
             continue;
         }
-        told.push(told_of(workers, alloc, network, rows, node)?)?;
+        told.push(told_of(workers, alloc, network, rows, &known, node)?)?;
     }
     Ok(told)
 }

@@ -1,9 +1,9 @@
 use Rattle.std.proofs.Common.{◌≡◌, ◌∙◌, ◌<◌, ℕ, All, List, Vec, Global, ap, arith, get_or, inl, inr, subst, sym}
-use Rattle.std.specs.Prelude.{slice_get, unwrap_or}
+use Rattle.sw_margin.specs.Rising.{number_at}
 use Rattle.std.proofs.lemmas.Bool.{cases_lt}
 use Rattle.sw_graph.specs.Rows.{Leads}
-use Rattle.sw_circles.proofs.RisingNumbers.{along_row, leads_in}
-use Rattle.sw_circles.proofs.rising.rise.Goals as goal
+use Rattle.sw_margin.proofs.RisingNumbers.{along_row, leads_in}
+use Rattle.sw_margin.proofs.rising.rise.Goals as goal
 
 pub loop-member-preserved : goal.loop-member-preserved
 loop-member-preserved c m d lt leads = elim (cases_lt m c.loop-member.member) [
@@ -11,7 +11,7 @@ loop-member-preserved c m d lt leads = elim (cases_lt m c.loop-member.member) [
   | inr behind ↦
       let same : c.loop-member.member ≡ m = omega (arith, lt, behind) in
       let rows = c.args.rows.now in
-      let number : ℕ → ℕ = λ i. unwrap_or (slice_get c.args.numbers.now i) 0 in
+      let number : ℕ → ℕ = λ i. number_at c.args.numbers.now i in
       let row : Vec ℕ Global = c.index-rows-from.result in
       let here : row ≡ get_or rows c.loop-member.member row = c.index-rows-from.is ∙ ap (λ i. get_or rows i row) c.from.ensures in
       let above : All (λ e. c.at.result < number e) c.deref.result.now = c.rise_to.ensures c.if-not-rise_to.false in
