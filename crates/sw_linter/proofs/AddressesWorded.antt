@@ -7,6 +7,7 @@ use Rattle.std.proofs.lemmas.Bool.{and_from, and_parts, eqb-true, false≢true, 
 use Rattle.std.proofs.lemmas.Option.{none-some}
 use Rattle.sw_rmap.specs.declared.config.TargetConfig.{TargetConfig}
 use Rattle.sw_config.specs.Entries.{Declaration, FlowEntry, ReplyEntry, target_of}
+use Rattle.sw_circles.proofs.Lawful.{Contains-at}
 use Rattle.sw_flow.proofs.Listed.{Contains-cases, Contains-head, Contains-later}
 use Rattle.sw_linter.specs.declared.lint.Lint.{Lint}
 use Rattle.sw_linter.specs.declared.lint.Lint.TheVariants.{TwoInitiators, WrongInitiator, WrongTarget}
@@ -28,6 +29,10 @@ module _ {A : Type 0} where
   passed true o a not_so is = absurd (false≢true (sym not_so))
   passed false o a not_so is = is
 
+  some_if : (t : Bool) (o : Option A) → is_some (if t then o else None) ≡ true → t ≡ true
+  some_if true o is = refl
+  some_if false o is = absurd (false≢true is)
+
   provided : (t : Bool) (o : Option A) (a : A) → (if t then o else None) ≡ Some a → (t ≡ true) × (o ≡ Some a)
   provided true o a is = (refl, is)
   provided false o a is = absurd (none-some a is)
@@ -41,12 +46,12 @@ module _ {A B : Type 0} (make : A → Option B) where
   joined None b is = absurd (none-some b is)
   joined (Some a) b is = (a, refl, is)
 
+  some_joined : (o : Option A) → is_some (option_and_then make o) ≡ true → (a : A) × (o ≡ Some a) × (is_some (make a) ≡ true)
+  some_joined None is = absurd (false≢true is)
+  some_joined (Some a) is = (a, refl, is)
+
   join : (o : Option A) (a : A) (b : B) → o ≡ Some a → make a ≡ Some b → option_and_then make o ≡ Some b
   join o a b there is = ap (option_and_then make) there ∙ is
-
-has : {A : Type 0} (o : Option A) → is_some o ≡ true → (a : A) × (o ≡ Some a)
-has None is = absurd (false≢true is)
-has (Some a) is = (a, refl)
 
 is_there : {A : Type 0} (o : Option A) (a : A) → o ≡ Some a → is_some o ≡ true
 is_there o a is = ap (λ p. is_some p) is
@@ -134,11 +139,6 @@ numbered (y ∷ ys) x h = elim (Contains-cases y x ys h) [
   | inr there ↦ let rest = numbered ys x there in (suc rest.0, rest.1)
 ]
 
-listed : {A : Type 0} (xs : List A) (i : ℕ) (x : A) → slice_get xs i ≡ Some x → Contains xs x
-listed [] i x is = absurd (none-some x is)
-listed (y ∷ ys) zero x is = let same : y ≡ x = cc in subst (λ z. Contains (y ∷ ys) z) same (Contains-head y ys)
-listed (y ∷ ys) (suc i) x is = Contains-later y x ys (listed ys i x is)
-
 in_front : {A : Type 0} (xs ys : List A) (x : A) → Contains (xs ++ ys) x → Contains xs x ⊎ Contains ys x
 in_front [] ys x h = inr h
 in_front (y ∷ xs) ys x h = elim (Contains-cases y x (xs ++ ys) h) [
@@ -189,7 +189,7 @@ module _ (d : Declaration) (n : ℕ) where
       (subst (λ (o : Option TargetConfig). Contains (option_to_list (option_map (λ target. target.logical) o)) address) (sym t.there) here)
   as_known address (inr s) =
       at_back of_target (filter_map (address_to n) d.flows) address
-      (to_made (address_to n) d.flows s.flow address (listed d.flows s.number s.flow s.numbered)
+      (to_made (address_to n) d.flows s.flow address (Contains-at d.flows s.number s.flow s.numbered)
       (met (s.flow.to == n) (left_byte s.flow) address (eq-eqb s.flow.to n s.to) (from_left s.flow address s.comes)))
 
 none_there : (xs : List ℕ) (address : ℕ) → is_none_of xs address ≡ true → ((own : ℕ) × Contains xs own) × (Contains xs address → ⊥)
@@ -251,13 +251,13 @@ initiators d i f address = (to, from)
 
 one_differs : (d : Declaration) (i : ℕ) (f : FlowEntry) (r : ReplyEntry) (j : ℕ) → f.reply ≡ Some r → is_some (differing d i f r.initiator j) ≡ true → DifferInReplies d f j
 one_differs d i f r j replied is =
-    let some = has (option_and_then (other_initiator f r.initiator) (slice_get d.flows j)) (sym (is_some-map (λ one. TwoInitiators j i one r.initiator) (option_and_then (other_initiator f r.initiator) (slice_get d.flows j))) ∙ is) in
-    let other = joined (other_initiator f r.initiator) (slice_get d.flows j) some.0 some.1 in
+    let some = sym (is_some-map (λ one. TwoInitiators j i one r.initiator) (option_and_then (other_initiator f r.initiator) (slice_get d.flows j))) ∙ is in
+    let other = some_joined (other_initiator f r.initiator) (slice_get d.flows j) some in
     let g = other.0 in
-    let replies = joined (λ (s : ReplyEntry). if (g.from == f.from && g.to == f.to) && not (s.initiator == r.initiator) then Some s.initiator else None) g.reply some.0 other.2 in
+    let replies = some_joined (λ (s : ReplyEntry). if (g.from == f.from && g.to == f.to) && not (s.initiator == r.initiator) then Some s.initiator else None) g.reply other.2 in
     let s = replies.0 in
-    let parts = provided ((g.from == f.from && g.to == f.to) && not (s.initiator == r.initiator)) (Some s.initiator) some.0 replies.2 in
-    let both = and_parts (g.from == f.from && g.to == f.to) (not (s.initiator == r.initiator)) parts.0 in
+    let parts = some_if ((g.from == f.from && g.to == f.to) && not (s.initiator == r.initiator)) (Some s.initiator) replies.2 in
+    let both = and_parts (g.from == f.from && g.to == f.to) (not (s.initiator == r.initiator)) parts in
     let ends = and_parts (g.from == f.from) (g.to == f.to) both.0 in
     record {
       other = g;
@@ -292,11 +292,9 @@ pairs d i f = (to, from)
 
     to : is_some (two_initiators d i f) ≡ true → (j : ℕ) × (j < i) × DifferInReplies d f j
     to is =
-        let lint = has (two_initiators d i f) is in
-        let reply = joined made f.reply lint.0 lint.1 in
+        let reply = some_joined made f.reply is in
         let r = reply.0 in
-        let at = passing (λ j. is_some (differing d i f r.initiator j)) (range_with_len 0 i)
-        (sym (some_made (differing d i f r.initiator) (range_with_len 0 i)) ∙ is_there (made r) lint.0 reply.2) in
+        let at = passing (λ j. is_some (differing d i f r.initiator j)) (range_with_len 0 i) (sym (some_made (differing d i f r.initiator) (range_with_len 0 i)) ∙ reply.2) in
         (at.element, omega (arith, (from_range 0 i at.element at.listed).1), one_differs d i f r at.element reply.1 at.passes)
 
     from : (j : ℕ) × (j < i) × DifferInReplies d f j → is_some (two_initiators d i f) ≡ true
