@@ -71,7 +71,7 @@ pub(crate) fn note_leg(
     leg: &Leg,
     text: &mut String,
 ) -> Result<(), AllocError> {
-    let Leg { from, to, flow } = *leg;
+    let Leg { from, to, flow, .. } = *leg;
     if from.number() >= network.channels() {
         return Ok(());
     }

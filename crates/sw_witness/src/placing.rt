@@ -6,7 +6,7 @@ use crate::load::Load;
 use crate::notes::{Holder, note};
 use crate::random::Random;
 use crate::way::way_onto;
-use crate::worm::{long_cargo, short_cargo};
+use crate::worm::{last_places, long_cargo, short_cargo};
 use std::alloc::{AllocError, Global};
 use std::mem;
 use sw_config::Network;
@@ -120,7 +120,8 @@ fn plan_flow(
         long_cargo(network, &placing.there)
     } else {
         placing.most = 1;
-        short_cargo(network, entry.address().len(), &placing.there)
+        let last = last_places(&placing.there, 1);
+        short_cargo(network, entry.address().len(), last)
     };
     placing.load = Load {
         flow,

@@ -3,12 +3,12 @@ ghost use Rattle.std.specs.Prelude.{◌<◌, length};
 ghost use Rattle.sw_config.specs.Entries.{all_flows};
 
 use crate::awaited::Awaited;
-use crate::leg::Leg;
+use crate::leg::{Extent, Leg};
 use crate::load::Load;
 use crate::random::Random;
 use crate::task::{Action, Task};
 use crate::ways::Ways;
-use crate::worm::{long_cargo, short_cargo};
+use crate::worm::{last_places, long_cargo, long_packets, short_cargo};
 use std::alloc::{AllocError, Global};
 use sw_config::Network;
 use sw_topo::PlaceEnd;
@@ -59,6 +59,7 @@ impl Plan<'_> {
             target: entry.to(),
             way,
             passed,
+            most: 1,
             is_first,
         })?;
         Ok(())
@@ -92,19 +93,21 @@ impl Plan<'_> {
             target: entry.to(),
             way,
             passed: 0,
+            most: 1,
             is_first: false,
         })?;
         Ok(())
     }
 
-    /// A packet of the flow is brought to where it holds the channel of the leg: a long one, the tail of which is held up at its source even
-    /// if the channel that it waits for has room, or, if that may be, a short one, which holds that channel alone.
+    /// A packet of the flow is brought to where it holds the channel of the leg: a short one, which holds so many channels up to that, or, if
+    /// there is no such number, a long one, the tail of which is held up at its source even if the channel that it waits for has room. More
+    /// follow where one can't be so long, unless the flow's commands are limited.
     fn park(
         &mut self,
         alloc: Global,
         flow: u16,
         leg: &Leg,
-        is_short: bool,
+        short: Option<usize>,
     ) -> Result<(), AllocError> {
         let network = self.network;
         if flow >= network.flows() {
@@ -113,35 +116,49 @@ impl Plan<'_> {
         self.count(flow)?;
         let way = self.ways.up_to(flow, leg.from).to_vec(alloc)?;
         let entry = network.flow(flow);
-        let (length, passed) = if is_short {
-            let length = short_cargo(network, entry.address().len(), &way);
-            (length, way.len().saturating_sub(1))
-        } else {
-            (long_cargo(network, self.ways.up_to(flow, leg.to)), 0)
+        let is_command = network.is_limited(flow);
+        let (length, passed, most) = match short {
+            Some(count) => {
+                let last = last_places(&way, count);
+                let length = short_cargo(network, entry.address().len(), last);
+                (length, way.len().saturating_sub(count), 1)
+            }
+            None => {
+                let whole = self.ways.up_to(flow, leg.to);
+                let most = if is_command {
+                    1
+                } else {
+                    long_packets(network, whole)
+                };
+                (long_cargo(network, whole), 0, most)
+            }
         };
         self.tasks.push(Task {
             action: Action::Park,
             load: Load {
                 flow,
-                is_command: network.is_limited(flow),
+                is_command,
                 length,
             },
             node: entry.from(),
             target: entry.to(),
             way,
             passed,
+            most,
             is_first: false,
         })?;
         Ok(())
     }
 
-    /// The packet is placed that holds the channel of the leg, if that is the last that it holds: a reply, or a packet of a declared flow, which
-    /// may be a short one if it holds no channel before.
+    /// The packet is placed that holds the channel of the leg, and so many up to that, if that is the last that it holds: a reply, or a packet of
+    /// a declared flow.
     fn add_packet(
         &mut self,
         alloc: Global,
         random: &mut Random,
-        [before, leg, after]: [&Leg; 3],
+        leg: &Leg,
+        after: &Leg,
+        held: usize,
     ) -> Result<(), AllocError> {
         let Some(flow) = leg.flow else {
             return Ok(());
@@ -152,8 +169,12 @@ impl Plan<'_> {
         if flow >= self.network.declared_flows() {
             return self.answer(alloc, flow, leg);
         }
-        let is_short = before.flow != leg.flow && random.below(3) == 0;
-        self.park(alloc, flow, leg, is_short)
+        let is_short = match leg.extent {
+            Extent::Any => held == 1 && random.below(3) == 0,
+            Extent::Long => false,
+            Extent::Short => true,
+        };
+        self.park(alloc, flow, leg, if is_short { Some(held) } else { None })
     }
 
     /// The target at the end of the leg gets as many commands as it may owe replies, but for that to which the reply on the next leg is, if
@@ -183,7 +204,7 @@ impl Plan<'_> {
         }
         if random.below(2) == 0 {
             if let Some(flow) = self.any_to(random, node, false) {
-                self.park(alloc, flow, leg, true)?;
+                self.park(alloc, flow, leg, Some(1))?;
             }
         }
         Ok(())
@@ -245,12 +266,18 @@ pub(crate) fn planned_tasks(
         begun: Awaited::new(alloc),
         failed: false,
     };
-    let mut before = legs.last();
+    let mut held = 0usize;
+    let mut before = None;
     for (index, leg) in legs.iter().enumerate() {
-        if let (Some(last), Some(next)) = (before, leg_behind(legs, index)) {
-            plan.add_packet(alloc, random, [last, leg, next])?;
+        held = if leg.flow == before {
+            held.saturating_add(1)
+        } else {
+            1
+        };
+        before = leg.flow;
+        if let Some(next) = leg_behind(legs, index) {
+            plan.add_packet(alloc, random, leg, next, held)?;
         }
-        before = Some(leg);
     }
     for (index, leg) in legs.iter().enumerate() {
         if let Some(next) = leg_behind(legs, index) {

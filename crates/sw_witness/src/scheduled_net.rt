@@ -2,7 +2,9 @@
 
 use crate::awaited::Awaited;
 use crate::load::Load;
+use crate::marks::{is_set, marks, put};
 use crate::random::Random;
+use crate::wake::wake_after;
 use std::alloc::{AllocError, Global};
 use sw_arb::Policy;
 use sw_char::End;
@@ -21,6 +23,8 @@ pub(crate) struct ScheduledNet<'n> {
     net: Net<'n, SwitchRoutes<'n>, Policy>,
     unanswered: Unanswered,
     awaited: Awaited,
+    // By link end, whether a step may be possible there, as far as is known.
+    awake: Vec<bool>,
     /// The schedule.
     pub(crate) text: String,
     /// How many steps it has.
@@ -58,6 +62,7 @@ impl<'n> ScheduledNet<'n> {
             net: declared_net(alloc, network)?,
             unanswered,
             awaited: Awaited::new(alloc),
+            awake: marks(alloc, network.channels(), true)?,
             text: String::new(alloc),
             steps: 0,
             moved: false,
@@ -81,6 +86,7 @@ impl<'n> ScheduledNet<'n> {
                     ).is_err();
                     self.steps += 1;
                     self.moved = true;
+                    wake_after(self.net.network(), &mut self.awake, &step);
                 }
                 Ok(Some(_)) => break,
                 Err(AllocError) => self.failed = true,
@@ -188,11 +194,11 @@ impl<'n> ScheduledNet<'n> {
             if number >= channels {
                 number = 0;
             }
-            if number < self.net.network().channels() {
+            if number < self.net.network().channels() && is_set(&self.awake, number) {
                 match self.net.possible_at(LinkEnd::new(number)) {
                     Some(Step::Move(Move::Reply(_))) if !replies_leave => {}
                     Some(step) => self.make(alloc, step, 1),
-                    None => {}
+                    None => put(&mut self.awake, number, false),
                 }
             }
             number = number.saturating_add(1);
@@ -215,6 +221,7 @@ impl<'n> ScheduledNet<'n> {
             net,
             unanswered: _,
             awaited: _,
+            awake: _,
             text,
             steps: _,
             moved: _,

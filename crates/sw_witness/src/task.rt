@@ -31,19 +31,15 @@ pub(crate) struct Task {
     pub(crate) way: Vec<Place>,
     /// How many places of the way are free behind it.
     pub(crate) passed: usize,
+    /// How many packets follow one another, at most, until one is held up at its source.
+    pub(crate) most: usize,
     /// Is it a command the reply to which is to leave first?
     pub(crate) is_first: bool,
 }
 
-/// Has the one list a channel of the other?
-fn meet(one: &[Place], other: &[Place]) -> bool {
-    one.iter()
-        .any(|place| other.iter().any(|it| it.channel == place.channel))
-}
-
 impl Task {
     /// The channels that are taken behind it.
-    fn channels_held(&self) -> &[Place] {
+    pub(crate) fn channels_held(&self) -> &[Place] {
         match self.way.get(self.passed..) {
             Some(held) => held,
             None => &[],
@@ -67,43 +63,10 @@ impl Task {
     }
 
     /// Does the node begin a packet of its own?
-    fn begins(&self) -> bool {
+    pub(crate) fn begins(&self) -> bool {
         match self.action {
             Action::Park | Action::Send => true,
             Action::Take | Action::Answer => false,
         }
-    }
-
-    /// Does it go over a channel that the other holds?
-    fn goes_over_held(&self, other: &Task) -> bool {
-        self.action != Action::Take && meet(&self.way, other.channels_held())
-    }
-
-    /// Is this to be done before the other, a command of which is sent, since the replies leave in that order?
-    fn is_before_send(&self, other: &Task) -> bool {
-        self.is_first && self.target == other.target
-    }
-
-    /// Is this to be done before the other, by which a target comes to owe a reply: is it that command, or a packet that the target begins,
-    /// which none does that owes a reply?
-    fn is_before_take(&self, other: &Task) -> bool {
-        self.action == Action::Send && self.load.flow == other.load.flow
-            || self.begins() && self.node == other.target
-    }
-
-    /// Is this to be done before the other, a reply: does its target take a command by this?
-    fn is_before_answer(&self, other: &Task) -> bool {
-        self.action == Action::Take && self.target == other.node
-    }
-
-    /// Is this to be done before the other?
-    pub(crate) fn is_before(&self, other: &Task) -> bool {
-        let is_earlier = match other.action {
-            Action::Park => false,
-            Action::Send => self.is_before_send(other),
-            Action::Take => self.is_before_take(other),
-            Action::Answer => self.is_before_answer(other),
-        };
-        is_earlier || self.goes_over_held(other)
     }
 }

@@ -1,6 +1,7 @@
 //! Tries: packets are placed so that channels wait for one another, and then the network goes on until nothing can.
 
 use crate::circle::any_circle;
+use crate::cover::cover;
 use crate::leg::Leg;
 use crate::load::Load;
 use crate::notes::note_leg;
@@ -23,11 +24,16 @@ const MOST_ROUNDS: u32 = 20_000;
 /// How many circles of channels a try looks at, at most, until there is one for which packets can be placed.
 const MOST_CIRCLES: u32 = 100;
 
+/// How many plans for a whole cycle a try looks at, at most, until there is one that can be carried out.
+const MOST_COVERS: u32 = 10;
+
 /// Which channels a try makes wait for one another.
 #[derive(Clone, Copy)]
 pub(crate) enum Along {
-    /// Those of a tangle's shortest cycle, with any number of packets.
+    /// Those of a tangle's shortest cycle, with any number of packets, each as it comes.
     Cycle,
+    /// The same, with packets that are chosen and ordered so that each can be placed.
+    WholeCycle,
     /// Those of any circle in a tangle, with no more commands than may be unanswered at once.
     AnyCircle,
     /// Any, as it happens: packets of all flows are begun, with no plan.
@@ -113,19 +119,33 @@ impl ScheduledNet<'_> {
         }
     }
 
-    /// Begins the packet of the task, and brings it to the end of its way; the target takes all but its end there, if it is to.
-    fn begin_and_bring(&mut self, alloc: Global, task: &Task, is_taken: bool) {
-        if let Some(count) = self.begin(alloc, task.load) {
-            let most = if is_taken { count } else { 0 };
-            self.bring(alloc, task, most);
+    /// Begins a packet of the task, if it can be, and brings it to the end of its way; the target takes all but its end there, if it is to. Whether
+    /// it was begun.
+    fn begin_and_bring(&mut self, alloc: Global, task: &Task, is_taken: bool) -> bool {
+        let Some(count) = self.begin(alloc, task.load) else {
+            return false;
+        };
+        let most = if is_taken { count } else { 0 };
+        self.bring(alloc, task, most);
+        true
+    }
+
+    /// Brings the packets of the task to the end of its way, one after another, until one is held up at its source.
+    fn park(&mut self, alloc: Global, task: &Task) {
+        for _ in 0..task.most {
+            if !self.begin_and_bring(alloc, task, false) {
+                break;
+            }
         }
     }
 
     /// Does what is to be done after these tasks.
     fn carry_out(&mut self, alloc: Global, before: &[Task], task: &Task) {
         match task.action {
-            Action::Park => self.begin_and_bring(alloc, task, false),
-            Action::Send => self.begin_and_bring(alloc, task, !task.meets_another(before)),
+            Action::Park => self.park(alloc, task),
+            Action::Send => {
+                let _begun = self.begin_and_bring(alloc, task, !task.meets_another(before));
+            }
             Action::Take => self.bring(alloc, task, MAX_STEPS),
             Action::Answer => {
                 self.repeat(alloc, Move::Reply(task.node), 1);
@@ -147,6 +167,47 @@ impl ScheduledNet<'_> {
         Ok(())
     }
 
+    /// Places what makes the channels of the legs wait for one another, if it can be; whether it can.
+    fn place_legs(
+        &mut self,
+        alloc: Global,
+        network: &Network,
+        random: &mut Random,
+        ways: &Ways,
+        legs: &[Leg],
+    ) -> Result<bool, AllocError> {
+        let Some(planned) = planned_tasks(alloc, network, random, ways, legs)? else {
+            return Ok(false);
+        };
+        let Some(tasks) = order(alloc, network, random, planned)? else {
+            return Ok(false);
+        };
+        self.note_legs(alloc, network, legs)?;
+        for (index, task) in tasks.iter().enumerate() {
+            self.carry_out(alloc, &tasks[..index], task);
+        }
+        Ok(true)
+    }
+
+    /// Places what makes the channels of the tangle's cycle wait for one another, all of them: each as it is known that it can be placed behind
+    /// the others.
+    fn place_whole(
+        &mut self,
+        alloc: Global,
+        network: &Network,
+        random: &mut Random,
+        tangle: &Tangle,
+    ) -> Result<(), AllocError> {
+        for _ in 0..MOST_COVERS {
+            if let Some((ways, legs)) = cover(alloc, network, random, tangle)? {
+                if self.place_legs(alloc, network, random, &ways, &legs)? {
+                    break;
+                }
+            }
+        }
+        Ok(())
+    }
+
     /// Places what makes channels wait for one another in a circle, any one of those to which one comes from the tangle's cycle.
     fn place_circle(
         &mut self,
@@ -162,17 +223,9 @@ impl ScheduledNet<'_> {
                 break;
             };
             let legs = any_circle(alloc, network, random, &ways, *start)?;
-            let Some(planned) = planned_tasks(alloc, network, random, &ways, &legs)? else {
-                continue;
-            };
-            let Some(tasks) = order(alloc, random, planned)? else {
-                continue;
-            };
-            self.note_legs(alloc, network, &legs)?;
-            for (index, task) in tasks.iter().enumerate() {
-                self.carry_out(alloc, &tasks[..index], task);
+            if self.place_legs(alloc, network, random, &ways, &legs)? {
+                break;
             }
-            break;
         }
         Ok(())
     }
@@ -188,6 +241,11 @@ impl ScheduledNet<'_> {
     ) {
         match along {
             Along::Cycle => self.place_cycle(alloc, network, random, tangle),
+            Along::WholeCycle => {
+                if self.place_whole(alloc, network, random, tangle).is_err() {
+                    self.failed = true;
+                }
+            }
             Along::AnyCircle => {
                 if self.place_circle(alloc, network, random, tangle).is_err() {
                     self.failed = true;
@@ -201,20 +259,17 @@ impl ScheduledNet<'_> {
     }
 }
 
-/// One try: a schedule after which the network is locked up, if it came to that. It places what makes channels of one of the tangles
-/// wait for one another, and lets the network go on until nothing can.
+/// One try: a schedule after which the network is locked up, if it came to that. It places what makes channels of the tangle wait for one
+/// another, and lets the network go on until nothing can.
 pub(crate) fn one_try(
     alloc: Global,
     network: &Network,
-    tangles: &[Tangle],
+    tangle: &Tangle,
     random: &mut Random,
     along: Along,
 ) -> Result<Option<String>, AllocError> {
     let mut trial = ScheduledNet::new(alloc, network)?;
-    let number = random.below(tangles.len());
-    if let Some(tangle) = tangles.get(number) {
-        trial.place(alloc, network, random, tangle, along);
-    }
+    trial.place(alloc, network, random, tangle, along);
     trial.run(alloc, random);
     trial.finish()
 }

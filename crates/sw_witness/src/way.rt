@@ -1,10 +1,10 @@
 //! Ways of flows to a channel.
-ghost use Rattle.std.specs.Prelude.{◌<◌, length};
+ghost use Rattle.std.specs.Prelude.{◌<◌, ◌≤◌, length};
 ghost use Rattle.sw_config.specs.Entries.{all_flows};
 
 use std::alloc::{AllocError, Global};
 use sw_config::{Flow, Network};
-use sw_flow::{Place, follows, way_to};
+use sw_flow::{Place, followers_in, follows, way_to};
 use sw_topo::Chan;
 use sw_topo::limits::MAX_ADDRESS;
 
@@ -49,4 +49,45 @@ pub(crate) fn way_onto(
         }
     }
     Ok(false)
+}
+
+/// The place on the channel that follows the last of the way in the flow, if one does.
+fn next_place(network: &Network, flow: &Flow, way: &[Place], channel: Chan) -> Option<Place>
+    requires { length flow.now.address ≤ 32 }
+{
+    let Some(last) = way.last() else {
+        return None;
+    };
+    for follower in followers_in(network, flow, *last) {
+        if follower.channel == channel {
+            return Some(follower);
+        }
+    }
+    None
+}
+
+/// A way of the flow to the first of the channels, and from there over the others, one after another; no places where it has none.
+pub(crate) fn way_along(
+    alloc: Global,
+    network: &Network,
+    flow: u16,
+    channels: &[Chan],
+) -> Result<Vec<Place>, AllocError>
+    requires { flow < length (all_flows network.now) }
+{
+    let mut way = Vec::new(alloc);
+    let [first, second, ..] = channels else {
+        return Ok(way);
+    };
+    if !way_onto(alloc, network, flow, *first, Some(*second), &mut way)? {
+        return Ok(way);
+    }
+    let flow = network.flow(flow);
+    for channel in &channels[1..] {
+        match next_place(network, flow, &way, *channel) {
+            Some(place) => way.push(place)?,
+            None => return Ok(Vec::new(alloc)),
+        }
+    }
+    Ok(way)
 }

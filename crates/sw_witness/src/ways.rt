@@ -2,7 +2,7 @@
 ghost use Rattle.std.specs.Prelude.{◌<◌, ◌≤◌, length};
 ghost use Rattle.sw_config.specs.Entries.{all_flows};
 
-use crate::leg::Leg;
+use crate::leg::{Extent, Leg};
 use crate::random::Random;
 use std::alloc::{AllocError, Global};
 use sw_config::{Flow, Network};
@@ -105,6 +105,7 @@ fn add_legs_of(rows: &mut [Vec<Leg>], flow: u16, way: &[Place]) -> Result<(), Al
                 from,
                 to,
                 flow: Some(flow),
+                extent: Extent::Any,
             };
             add_leg(rows, leg)?;
         }
@@ -122,6 +123,7 @@ fn add_legs_at_targets(network: &Network, rows: &mut [Vec<Leg>]) -> Result<(), A
                 from: to.partner(),
                 to,
                 flow: None,
+                extent: Extent::Any,
             };
             add_leg(rows, leg)?;
         }
@@ -198,7 +200,43 @@ impl Ways {
         })
     }
 
-    /// The flow's way; no places where there is no such flow.
+    /// No way of any flow.
+    pub(crate) fn none(alloc: Global, network: &Network) -> Result<Ways, AllocError> {
+        let mut places = Vec::new(alloc);
+        for _ in 0..network.flows() {
+            places.push(Vec::new(alloc))?;
+        }
+        Ok(Ways {
+            places,
+            commands: command_flows(alloc, network)?,
+            legs: Vec::new(alloc),
+        })
+    }
+
+    /// This is the way of the flow from now on.
+    pub(crate) fn set(&mut self, flow: u16, way: Vec<Place>) {
+        let number = usize::from(flow);
+        if number < self.places.len() {
+            self.places[number] = way;
+        }
+    }
+
+    /// The flow gets any way, if it has none.
+    pub(crate) fn find(
+        &mut self,
+        alloc: Global,
+        network: &Network,
+        random: &mut Random,
+        flow: u16,
+    ) -> Result<(), AllocError> {
+        if flow < network.flows() && self.of(flow).is_empty() {
+            let way = any_way(alloc, network, random, flow)?;
+            self.set(flow, way);
+        }
+        Ok(())
+    }
+
+    /// The flow's way; no places where there is no such flow, or it has none.
     pub(crate) fn of(&self, flow: u16) -> &[Place] {
         match self.places.get(usize::from(flow)) {
             Some(way) => way.as_slice(),
