@@ -32,3 +32,10 @@ mod SplitFlows
 mod SplitArrivals
 mod SplitsTold
 mod ChangesInWords
+pub mod Members
+pub mod KeptWays
+pub mod SameTargets
+pub mod SparedCauses
+pub mod SparedSplits
+pub mod Using
+pub mod Touching

@@ -8,3 +8,5 @@ pub mod Limitings
 pub mod LimitingLaws
 pub mod Outstanding
 pub mod Laws
+pub mod KeptCycles
+pub mod Spared

@@ -9,7 +9,7 @@ use std::marker::Model;
 use sw_config::{Flow, Network, Reply};
 
 /// Does the change take the flow away?
-fn loses_flow(change: &Change, number: u16, flow: &Flow) -> bool
+pub(crate) fn loses_flow(change: &Change, number: u16, flow: &Flow) -> bool
     ensures { result ≡ loses_flow change.now number flow.now }
 {
     match change {
@@ -20,7 +20,7 @@ fn loses_flow(change: &Change, number: u16, flow: &Flow) -> bool
 }
 
 /// Does the change leave the flow without its reply?
-fn loses_reply(change: &Change, number: u16, flow: &Flow) -> bool
+pub(crate) fn loses_reply(change: &Change, number: u16, flow: &Flow) -> bool
     ensures { result ≡ loses_reply change.now number flow.now }
 {
     match change {

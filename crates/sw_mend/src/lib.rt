@@ -3,7 +3,9 @@
 
 mod change;
 pub mod change_laws;
+pub mod cycle_laws;
 mod flows;
+mod judging;
 pub mod laws;
 mod limiting;
 pub mod limiting_laws;
@@ -14,10 +16,12 @@ mod outstanding;
 mod pairs;
 mod parts;
 mod rebuilt;
+mod sparing;
 pub mod split_laws;
 mod splitting;
 mod tables;
 mod trials;
+mod uses;
 
 pub use change::{Change, Pair, TargetLink, Trial};
 pub use limiting::{Limiting, TargetSlots, find_limiting};

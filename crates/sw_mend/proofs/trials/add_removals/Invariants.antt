@@ -1,7 +1,9 @@
 use Rattle.std.proofs.Common.{map, take}
 use Rattle.sw_mend.specs.Mends.{AreAdded, Frees}
+use Rattle.sw_mend.specs.Spared.{AreOfCycles}
 use Rattle.sw_mend.specs.declared.change.Trial.TheVariants.{Without}
 use Rattle.sw_mend.proofs.trials.add_removals.Given as goal
 
 abbrev pub invariant-loop-change : goal.invariant-loop-change
-invariant-loop-change g l = AreAdded (Frees l.network) (map Without (take l.change-index l.change-items)) l.initial.mends.items l.mends.items
+invariant-loop-change g l =
+    AreOfCycles l.network l.cycles.items × AreAdded (Frees l.network) (map Without (take l.change-index l.change-items)) l.initial.mends.items l.mends.items

@@ -12,6 +12,6 @@ pub returns : goal.returns
 returns g c =
     let d = c.args.network.now in
     let parts =
-    subst (λ (l : List Change). AreAdded (Frees d) (map Without l) c.new-mends.result.items c.add_removals.new.mends.items) (parts_are d) c.in_ok-add_removals.ensures in
+    subst (λ (l : List Change). AreAdded (Frees d) (map Without l) c.new-mends.result.items c.add_removals.new.mends.items) (parts_are d) c.in_ok-add_removals.ensures.told in
     all_added (Frees d) (single_changes d) _ _ c.new-mends.ensures.items
     (both_added (Frees d) (map Without (parts_away d)) (map Split (splits d)) _ c.add_removals.new.mends.items c.add_splits.new.mends.items parts c.in_ok-add_splits.ensures)

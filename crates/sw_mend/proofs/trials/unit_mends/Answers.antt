@@ -10,4 +10,4 @@ pub returns : goal.returns
 returns g c =
     let d = c.args.network.now in
     all_added (Frees d) (unit_changes d) _ _ c.new-mends.ensures.items
-    (subst (λ (l : List Change). AreAdded (Frees d) (map Without l) c.new-mends.result.items c.add_removals.new.mends.items) (units_are d) c.in_ok-add_removals.ensures)
+    (subst (λ (l : List Change). AreAdded (Frees d) (map Without l) c.new-mends.result.items c.add_removals.new.mends.items) (units_are d) c.in_ok-add_removals.ensures.told)

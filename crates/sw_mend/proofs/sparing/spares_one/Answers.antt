@@ -1,0 +1,6 @@
+use Rattle.std.proofs.Common.{arith, sym}
+use Rattle.sw_mend.proofs.sparing.spares_one.Goals as goal
+
+pub returns-then-is_spared : goal.returns-then-is_spared
+returns-then-is_spared c told =
+    (c.index-cycles-number.result, (_, omega (arith, c.loop-behind-test.true), sym c.index-cycles-number.is), c.is_spared.ensures c.if-is_spared.true)
