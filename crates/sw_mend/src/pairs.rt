@@ -27,7 +27,8 @@ fn failing_alone<W: VerdictWorkers>(
 {
     let changes = removals(alloc, network, PARTS_AND_UNITS)?;
     let mut failing = Vec::new(alloc);
-    for change in changes.iter() {
+    for (number, change) in changes.iter().enumerate() {
+        workers.tell_progress(number, changes.len());
         let freed = frees(workers, alloc, network, change, cycles)?;
         add_if(!freed, *change, &mut failing)?;
     }
@@ -80,6 +81,7 @@ pub fn pair_mends<W: VerdictWorkers>(
     let changes = failing_alone(workers, alloc, network, &mut cycles)?;
     let mut pairs = Vec::new(alloc);
     for (number, first) in changes.iter().enumerate() {
+        workers.tell_progress(number, changes.len());
         add_pairs_with(
             workers,
             alloc,

@@ -30,7 +30,8 @@ fn add_removals<W: VerdictWorkers>(
     ensures told { OnOk result (AreAdded (Frees network.now) (map Without (flat_map (kind_away network.now) kinds.now)) mends.old.items mends.new.items) }
 {
     let changes = removals(alloc, network, kinds)?;
-    for change in changes.iter() {
+    for (number, change) in changes.iter().enumerate() {
+        workers.tell_progress(number, changes.len());
         let freed = frees(workers, alloc, network, change, cycles)?;
         add_if(freed, Trial::Without(*change), mends)?;
     }
@@ -49,6 +50,7 @@ fn add_splits<W: VerdictWorkers>(
     ensures { OnOk result (AreAdded (Frees network.now) (map Split (splits network.now)) mends.old.items mends.new.items) }
 {
     for node in 0..network.nodes() {
+        workers.tell_progress(usize::from(node), usize::from(network.nodes()));
         let Some(link) = own_link_of(network, node) else {
             continue;
         };

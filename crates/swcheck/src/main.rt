@@ -22,15 +22,16 @@ use program::run_program;
 use std::io::IsTerminal;
 use std::process::ExitCode;
 use sw_engine::SystemFiles;
-use sw_graph::SideBySide;
+use sw_graph::{Progress, SideBySide};
 use sw_run::with_progress;
 
-/// On a terminal it shows, while the call goes on, for how long it has.
+/// On a terminal it shows, while the call goes on, for how long it has, and how much of a long work is done.
 fn main(rt: HostRuntime) -> ExitCode {
     let files = SystemFiles { host: &rt };
-    let run = || run_program(&rt, &files, &SideBySide::new(&rt));
+    let progress = Progress::new();
+    let run = || run_program(&rt, &files, &SideBySide::new(&rt, &progress));
     let status = if rt.stderr().is_terminal() {
-        with_progress(&rt, run)
+        with_progress(&rt, &progress, run)
     } else {
         run()
     };

@@ -3,8 +3,9 @@
 
 use std::process::ExitCode;
 use sw_calls::run_verdicts;
-use sw_graph::SideBySide;
+use sw_graph::{Progress, SideBySide};
 
 fn main(rt: HostRuntime) -> ExitCode {
-    ExitCode::from(run_verdicts(&rt, &SideBySide::new(&rt)))
+    let progress = Progress::new();
+    ExitCode::from(run_verdicts(&rt, &SideBySide::new(&rt, &progress)))
 }

@@ -20,9 +20,10 @@ use crate::memory::show_memory;
 use crate::parts::show_parts;
 use crate::work::show_cases;
 use std::{env, io};
-use sw_graph::SideBySide;
+use sw_graph::{Progress, SideBySide};
 
 fn main(rt: HostRuntime) -> io::Result<()> {
+    let progress = Progress::new();
     if env::args(&rt)?.count() == 1 {
         show_cases(&rt, &rt, DRAINS)
             .and(show_cases(&rt, &rt, LIMITS))
@@ -32,7 +33,7 @@ fn main(rt: HostRuntime) -> io::Result<()> {
             .and(show_cases(&rt, &rt, RUNS))
             .and(show_cases(&rt, &rt, ENGINES))
             .and(show_cases(&rt, &rt, CYCLES))
-            .and(show_parts(&rt, &SideBySide::new(&rt)))?;
+            .and(show_parts(&rt, &SideBySide::new(&rt, &progress)))?;
     }
     show_memory(&rt)
 }
