@@ -5,5 +5,6 @@ pub mod OneRoute
 pub mod OneVerdict
 pub mod ShownFree
 pub mod Told
+mod Decided
 pub mod OneCount
 pub mod OneReport

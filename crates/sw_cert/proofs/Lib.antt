@@ -5,6 +5,7 @@ pub mod Runs
 pub mod Writes
 pub mod Parted
 pub mod Written
+mod WrittenLists
 pub mod Made
 pub mod RisingPlaces
 pub mod Blocks

@@ -11,3 +11,4 @@ pub mod Ranks
 pub mod Ends
 pub mod AcceptanceLaws
 pub mod Numbered
+pub mod PartTexts

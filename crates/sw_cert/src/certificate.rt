@@ -11,12 +11,13 @@ use crate::draft::Draft;
 use crate::lines::Expected;
 use crate::parts::{ReadWorkers, parts_of};
 use crate::reading::{read_lines, take_lists};
-use crate::write::spell;
+use crate::write::{spell, spell_by};
+use crate::write_workers::WriteWorkers;
 use std::alloc::{AllocError, Global};
 use std::marker::Model;
 use sw_flow::Place;
 use sw_graph::OneByOne;
-use sw_text::OrMemory;
+use sw_text::{OrMemory, TextParts};
 
 /// The number of the first line of a certificate, counted from 1, that is not as the grammar asks
 /// after the lines before it, or want of memory.
@@ -124,6 +125,21 @@ impl Certificate {
         ensures { IfOk result (λ text. text.items ≡ spelling self.now.numbers self.now.places) }
     {
         spell(alloc, &self.numbers, &self.places)
+    }
+
+    /// The same text in parts. The workers make those of the lists, of a long text side by side.
+    ///
+    /// # Errors
+    ///
+    /// There is no memory for the text.
+    pub fn write_by<W: WriteWorkers>(
+        &self,
+        workers: &W,
+        alloc: Global,
+    ) -> Result<TextParts, AllocError>
+        ensures { IfOk result (λ text. text ≡ spelling self.now.numbers self.now.places) }
+    {
+        spell_by(workers, alloc, &self.numbers, &self.places)
     }
 }
 

@@ -21,6 +21,7 @@ mod refusal;
 mod rising;
 mod targets;
 mod write;
+mod write_workers;
 
 pub use certificate::{Certificate, CertificateFault};
 pub use checker::check;
@@ -32,3 +33,4 @@ pub use rising::number_of;
 pub use sw_flow::Place;
 pub use sw_text::laws::one_spelling;
 pub use sw_topo::limits::{MAX_ADDRESS, MAX_NUMBER};
+pub use write_workers::WriteWorkers;

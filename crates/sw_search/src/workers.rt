@@ -7,14 +7,19 @@ ghost use Rattle.sw_search.specs.Lists.{AreFirstFaults, AreListed, IsFirstFault}
 use crate::misrouted::fault_of_flow;
 use std::alloc::{AllocError, Global};
 use std::thread::Threads;
-use sw_cert::{CheckWorkers, ReadWorkers};
+use sw_cert::{CheckWorkers, ReadWorkers, WriteWorkers};
 use sw_config::Network;
 use sw_cycle::PortWorkers;
 use sw_flow::{Place, PlaceWorkers, RouteFault, flows_a_thread};
 use sw_graph::{OneByOne, RoundWorkers, SideBySide, side_by_side};
 
-/// Who finds what a verdict rests on, and reads certificates.
-pub trait VerdictWorkers: CheckWorkers + PlaceWorkers + PortWorkers + ReadWorkers + RoundWorkers {
+/// Who finds what a verdict rests on, and reads and writes certificates.
+pub trait VerdictWorkers: CheckWorkers
+    + PlaceWorkers
+    + PortWorkers
+    + ReadWorkers
+    + RoundWorkers
+    + WriteWorkers {
     /// The first fault of each flow, by the flows' numbers.
     ///
     /// # Errors

@@ -9,4 +9,5 @@ pub mod Unknown
 pub mod Tests
 pub mod Endings
 pub mod Results
+mod WrittenParts
 pub mod NameBytes

@@ -13,3 +13,4 @@ pub mod FaultTexts
 pub mod Ends
 pub mod Inputs
 pub mod Told
+pub mod Parts

@@ -23,6 +23,7 @@ pub mod section_keys;
 mod sections;
 pub mod statuses;
 mod table;
+mod text_parts;
 mod write_answer;
 mod write_stream;
 
@@ -39,5 +40,8 @@ pub use read_stream::{ReadError, read_whole};
 pub use read_texts::{InputError, InputText, read_one, read_two};
 pub use sections::Standing;
 pub use table::{TableEntry, is_known};
-pub use write_answer::{Ended, tell, tell_answer, tell_bytes, tell_memory, tell_unread};
+pub use text_parts::TextParts;
+pub use write_answer::{
+    Ended, tell, tell_answer, tell_bytes, tell_memory, tell_parts, tell_unread,
+};
 pub use write_stream::{WriteError, write_whole};

@@ -5,6 +5,7 @@ ghost use Rattle.sw_text.specs.Told.{IsAnswerTold};
 
 use crate::answer::ByteAnswer;
 use crate::statuses::{FAULTY, NO_ROOM, UNREAD_OR_UNWRITTEN};
+use crate::text_parts::TextParts;
 use crate::{ReadError, write_whole};
 use std::alloc::AllocError;
 use std::io::Write;
@@ -39,6 +40,16 @@ pub fn tell_bytes<W: Write>(text: &[u8], status: u8, writer: &mut W) -> Ended
     ensures { IsTold (W.contents writer.old) (W.contents writer.new) text.now status result }
 {
     match write_whole(text, writer) {
+        Ok(()) => Ended::Status(status),
+        Err(_) => Ended::WriteFailed,
+    }
+}
+
+/// Writes an answer whose text is in parts.
+pub fn tell_parts<W: Write>(text: &TextParts, status: u8, writer: &mut W) -> Ended
+    ensures { IsTold (W.contents writer.old) (W.contents writer.new) text.now status result }
+{
+    match text.write(writer) {
         Ok(()) => Ended::Status(status),
         Err(_) => Ended::WriteFailed,
     }

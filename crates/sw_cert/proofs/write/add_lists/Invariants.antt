@@ -1,10 +1,7 @@
-use Rattle.std.proofs.Common.{◌≡◌, ◌++◌, string_bytes, take, length}
-use Rattle.std.specs.Prelude.{codes}
+use Rattle.std.proofs.Common.{◌≡◌, ◌++◌, string_bytes, take}
 use Rattle.std.specs.List.{flat_map}
-use Rattle.std.specs.Fmt.{decimal}
-use Rattle.sw_cert.specs.Grammar.{with_lf}
 use Rattle.sw_cert.proofs.Written.{block_text}
 use Rattle.sw_cert.proofs.write.add_lists.Given as goal
 
 abbrev pub invariant-loop-places : goal.invariant-loop-places
-invariant-loop-places l = string_bytes l.text ≡ string_bytes l.fn.text ++ (with_lf (codes "flows " ++ decimal (length l.flows)) ++ flat_map block_text (take l.places-index l.flows))
+invariant-loop-places l = string_bytes l.text ≡ string_bytes l.fn.text ++ flat_map block_text (take l.places-index l.flows)
