@@ -126,7 +126,7 @@ pub fn decide<T: VerdictWorkers, R: Read, W: Write>(
 {
     let file = read_network_file(alloc, reader);
     let found = found_of_file(workers, alloc, &file);
-    // A certificate may be long, and the workers make its text: a form of answers has none.
+    // A certificate may be long, so the workers make its text; a form of answers has no workers.
     match certificate_found(&found) {
         Some(certificate) => {
             let ended = tell_certificate(workers, alloc, certificate, writer);

@@ -123,7 +123,7 @@ fn head_text(alloc: Global, numbers: &[u16], flows: usize) -> Result<String, All
     Ok(text)
 }
 
-/// What the lines of places begin with, by channel below that one.
+/// What the lines of places begin with, by channel, for the channels below `channels`.
 pub(crate) fn heads_of(alloc: Global, channels: usize) -> Result<Vec<String>, AllocError>
     ensures { IfOk result (λ v. AreHeads v.items) }
 {

@@ -13,14 +13,14 @@ use std::thread::Threads;
 use sw_flow::Place;
 use sw_graph::{OneByOne, SideBySide, Workers};
 
-/// For fewer places no further part is made.
+/// A part has at least about so many places.
 const LEAST_PLACES: usize = 4_096;
-/// About as many parts are made of more places.
+/// Lists are cut into about so many parts at most.
 const PARTS: usize = 64;
 
 /// Who writes the lists of a certificate.
 pub trait WriteWorkers: Workers {
-    /// The text of the lists of flows, in parts. It is made faster if places are at channels below that one.
+    /// The text of the lists of flows, in parts. It is made faster where all places are at channels below `channels`.
     ///
     /// # Errors
     ///
@@ -35,7 +35,7 @@ pub trait WriteWorkers: Workers {
         ensures { IfOk result (λ parts. joined parts.items ≡ lists_text (map items_of flows.now)) };
 }
 
-/// Of how many flows the lists stand in one part. It decides only time.
+/// How many flows have their lists in one part. It decides only time.
 fn flows_a_part(flows: &[Vec<Place>]) -> usize
     ensures { 0 < result }
 {
